@@ -1,0 +1,5 @@
+pub mod KeyOf
+pub mod Order
+pub mod Bits
+pub mod Bytes
+pub mod Lists

@@ -1,0 +1,158 @@
+// Prices: the finite `f64` values but -0, their order, and their bits.
+ghost use mathlib.Core.Path.{_≡_};
+ghost use Prim.Native.Nat.{_+_, _*_, _%_, _≤_, _<_};
+ghost use mathlib.Core.List.{_++_};
+ghost use lib.ListN.{length, take, drop};
+ghost use lib.Ieee.{toBits, binary64};
+ghost use Rattle.price.specs.Price.{isPrice, Price, allPrices, lower, higher};
+ghost use Rattle.price.specs.Bytes.{bytesOf, ofBytes, priceBytes, priceBits, readBits};
+
+// The smaller of two prices, `a` where they are equal.
+pub fn lower(a: f64, b: f64) -> f64
+    ensures { λ r. ⌜ r ≡ lower a b ⌝ }
+{
+    if b < a { b } else { a }
+}
+
+// The larger of two prices, `a` where they are equal.
+pub fn higher(a: f64, b: f64) -> f64
+    ensures { λ r. ⌜ r ≡ higher a b ⌝ }
+{
+    if a < b { b } else { a }
+}
+
+// Whether a bit pattern is a price's: the exponent's field is not all ones, and it is not -0's.
+pub fn price_bits(n: u64) -> bool
+    ensures { λ r. ⌜ r ≡ priceBits n ⌝ }
+{
+    if (n >> 52) % 2048 == 2047 {
+        return false;
+    }
+    n != 0x8000_0000_0000_0000
+}
+
+// Whether x is a price.
+pub fn is_price(x: f64) -> bool
+    ensures { λ r. ⌜ r ≡ isPrice x ⌝ }
+{
+    if x != x {
+        return false;
+    }
+    price_bits(f64::to_bits(x))
+}
+
+// What eight bytes or a bit pattern hold.
+pub enum PriceRead {
+    Price(f64),
+    NotPrice,
+}
+
+// The price that a bit pattern stands for, where it stands for one.
+pub fn price_of_bits(n: u64) -> PriceRead
+    ensures { λ r. ⌜ r ≡ readBits n ⌝ }
+{
+    if price_bits(n) {
+        return PriceRead::Price(f64::from_bits(n));
+    }
+    PriceRead::NotPrice
+}
+
+// A price's bit pattern.
+pub fn bits_of_price(x: f64) -> u64
+    requires { ⌜ Price x ⌝ }
+    ensures { λ r. ⌜ r ≡ toBits binary64 x ⌝ }
+{
+    f64::to_bits(x)
+}
+
+// The lowest byte of n.
+fn byte(n: u64) -> u8
+    ensures { λ r. ⌜ r ≡ n % 256 ⌝ }
+{
+    (n % 256) as u8
+}
+
+// The eight bytes of n, the lowest first.
+pub fn bytes_of(n: u64) -> [u8; 8]
+    ensures { λ r. ⌜ r ≡ bytesOf 8 n ⌝ }
+{
+    [
+        byte(n),
+        byte(n >> 8),
+        byte(n >> 16),
+        byte(n >> 24),
+        byte(n >> 32),
+        byte(n >> 40),
+        byte(n >> 48),
+        byte(n >> 56),
+    ]
+}
+
+// Whether each element of xs is a price.
+pub fn all_prices(xs: &[f64]) -> bool
+    ensures { λ r. ⌜ r ≡ allPrices (now (xs .entry)) ⌝ }
+{
+    let mut i = 0usize;
+    while i < xs.len() {
+        if !is_price(xs[i]) {
+            return false;
+        }
+        i += 1;
+    }
+    true
+}
+
+// A byte as a wide number.
+fn wide(x: u8) -> u64
+    ensures { λ r. ⌜ (r ≡ x) × (r < 256) ⌝ }
+{
+    x as u64
+}
+
+// Four bytes, the lowest first.
+fn half_of(a: u8, b: u8, c: u8, d: u8) -> u64
+    ensures { λ r. ⌜ (r ≡ a + 256 * (b + 256 * (c + 256 * d))) × (r < 0x1_0000_0000) ⌝ }
+{
+    wide(a) + 256 * (wide(b) + 256 * (wide(c) + 256 * wide(d)))
+}
+
+// The number that the first eight bytes of s stand for, the lowest first.
+pub fn number_of(s: &[u8]) -> u64
+    requires { ⌜ 8 ≤ length (now s) ⌝ }
+    ensures { λ r. ⌜ r ≡ ofBytes (take 8 (now (s .entry))) ⌝ }
+{
+    let lo = half_of(s[0], s[1], s[2], s[3]);
+    let hi = half_of(s[4], s[5], s[6], s[7]);
+    lo + 0x1_0000_0000 * hi
+}
+
+// Writes the eight bytes of n at the start of out.
+pub fn put(out: &mut [u8], n: u64)
+    requires { ⌜ 8 ≤ length (now out) ⌝ }
+    ensures { λ _. ⌜ now (out .exit) ≡ bytesOf 8 n ++ drop 8 (now (out .entry)) ⌝ }
+{
+    let mut m = n;
+    let mut i = 0usize;
+    while i < 8 {
+        out[i] = byte(m);
+        m = m / 256;
+        i += 1;
+    }
+}
+
+// The price in the first eight bytes of s, where they hold one.
+pub fn get_price(s: &[u8]) -> PriceRead
+    requires { ⌜ 8 ≤ length (now s) ⌝ }
+    ensures { λ r. ⌜ r ≡ readBits (ofBytes (take 8 (now (s .entry)))) ⌝ }
+{
+    price_of_bits(number_of(s))
+}
+
+// Writes a price's eight bytes at the start of out.
+pub fn put_price(out: &mut [u8], x: f64)
+    requires { ⌜ 8 ≤ length (now out) ⌝ }
+    requires { ⌜ Price x ⌝ }
+    ensures { λ _. ⌜ now (out .exit) ≡ priceBytes x ++ drop 8 (now (out .entry)) ⌝ }
+{
+    put(out, bits_of_price(x));
+}

@@ -1,0 +1,77 @@
+-- What demand 3 claims of a chart and of its marks. Assumes nothing.
+use Prim.Native.Nat.{ℕ, _≤_, _<_}
+use mathlib.Core.Path.{_≡_}
+use mathlib.Core.Logic.{_≢_}
+use mathlib.Core.Bool.{true, cond}
+use mathlib.Core.List.{List, List·Memᴰ}
+use mathlib.Core.Option.{some}
+use lib.ListN.{getElem?}
+use lib.Ieee.{Float, le, lt}
+use Rattle.chart.specs.declared.Triple.{Triple}
+use Rattle.chart.specs.declared.Zone.{Zone}
+use Rattle.chart.specs.declared.Ground.{Ground}
+use Rattle.chart.specs.declared.Ground.the-variants as ground
+use Rattle.chart.specs.declared.ThirdMark.{ThirdMark}
+use Rattle.chart.specs.declared.NMark.{NMark}
+use Rattle.rules.specs.Records.{Quotes}
+use Rattle.rules.specs.Marks.{quote}
+
+-- ---- members
+
+-- record j of a level is an opposing one of owner h: it lies from the owner's first to its last, and its direction differs
+pub record Opposes (level owners : List Triple) (h j : ℕ) : Type 0 where
+  pub owner : Triple
+  pub item : Triple
+  pub owner-at : getElem? owners h ≡ some owner
+  pub item-at : getElem? level j ≡ some item
+  pub not-before : owner .first ≤ j
+  pub not-behind : j ≤ owner .last
+  pub other : item .direction ≢ owner .direction
+
+-- the zone in place n has record j for a member
+pub record MemberAt (zones : List Zone) (members : Zone → List ℕ) (j n : ℕ) : Type 0 where
+  pub zone : Zone
+  pub zone-at : getElem? zones n ≡ some zone
+  pub member : List·Memᴰ j (members zone)
+
+-- exactly one zone has it, and that is one of owner h
+pub record OneZone (zones : List Zone) (members : Zone → List ℕ) (h j : ℕ) : Type 0 where
+  pub place : ℕ
+  pub there : MemberAt zones members j place
+  pub its-owner : there .zone .«sup_idx» ≡ h
+  pub only : (n : ℕ) → MemberAt zones members j n → n ≡ place
+
+-- ---- edges
+
+-- dd ≤ zd ≤ zg ≤ gg, and two or more members have zd < zg
+pub record Edges (z : Zone) : Type 0 where
+  pub dd-zd : le (z .dd) (z .zd) ≡ true
+  pub zd-zg : le (z .zd) (z .zg) ≡ true
+  pub zg-gg : le (z .zg) (z .gg) ≡ true
+  pub overlap : 2 ≤ z .members → lt (z .zd) (z .zg) ≡ true
+
+-- ---- marks
+
+-- the price that a ground names: the zone edge that was beaten, or the price C of an anchor
+abbrev pub named : Ground → Float
+named (ground.Zone p) = p
+named (ground.Anchor p) = p
+
+-- a third mark is strictly beyond the ground it names, a buy above and a sell below, and its price is the lent one of its side at its bar
+pub record Beyond (q : Quotes) (m : ThirdMark) : Type 0 where
+  pub quoted : quote q (m .«is_buy») (m .«bar_index») ≡ some (m .price)
+  pub beyond : cond (m .«is_buy») (lt (named (m .ground)) (m .price)) (lt (m .price) (named (m .ground))) ≡ true
+
+-- among marks there is one of order 0, of this mark's side, at an earlier bar
+pub record Earlier (ms : List NMark) (m : NMark) : Type 0 where
+  pub first : NMark
+  pub there : List·Memᴰ first ms
+  pub order : first .order ≡ 0
+  pub side : first .«is_buy» ≡ m .«is_buy»
+  pub earlier : first .«bar_index» < m .«bar_index»
+
+-- no two marks, in two places, share bar and side
+pub record Apart (ms : List NMark) : Type 0 where
+  pub apart :
+      (i j : ℕ) (m n : NMark) → getElem? ms i ≡ some m → getElem? ms j ≡ some n → m .«bar_index» ≡ n .«bar_index»
+      → m .«is_buy» ≡ n .«is_buy» → i ≡ j

@@ -1,0 +1,17 @@
+-- The definitions of document 01, a file a section, in its order. A reader has to believe these files; all else is proved against them.
+pub mod Lists
+pub mod Answer
+pub mod Records
+pub mod Ranges
+pub mod Zones
+pub mod Machine
+pub mod Live
+pub mod Marks
+pub mod Classes
+pub mod FirstMarks
+pub mod Labels
+pub mod File
+pub mod Text
+pub mod Refusals
+pub mod Calls
+pub mod Claims

@@ -1,0 +1,121 @@
+-- Zones. The overlap rule is stated for owners over the records of a level, whatever the range of such a record is; the zones of a chart
+-- are those of its superiors over its bigs. Assumes nothing.
+use Prim.Native.Nat.{ℕ, suc, _-_}
+use mathlib.Core.Bool.{Bool, true, false, cond, _&&_}
+use mathlib.Core.List.{List, [], _∷_, _++_, map}
+use mathlib.Core.Option.{none, some}
+use lib.ListN.{length, take, drop, getElem?}
+use lib.Dec.{eqb, leb, ltb}
+use lib.Ieee.{lt, le}
+use Rattle.chart.specs.declared.Triple.{Triple}
+use Rattle.chart.specs.declared.Span.{Span}
+use Rattle.chart.specs.declared.Range.{Range}
+use Rattle.chart.specs.declared.Range.the-variants.{Found, Missing}
+use Rattle.chart.specs.declared.Zone.{Zone}
+use Rattle.price.specs.Price.{lower, higher}
+use Rattle.rules.specs.Lists.{keep}
+use Rattle.rules.specs.Records.{Levels}
+use Rattle.rules.specs.Ranges.{rangeOf}
+
+-- an opposing record: its index in its level, and what it covers
+pub record Member : Type 0 where
+  pub index : ℕ
+  pub span : Span
+
+-- The opposing records among some of a level, the first of which has index j: direction differs from d, the owner's; range not missing
+unfoldable pub opposing : (Triple → Range) → ℕ → ℕ → List Triple → List Member
+opposing range d j [] = []
+opposing range d j (b ∷ bs) =
+    let rest = opposing range d (suc j) bs in
+    elim (eqb (b .direction) d) [
+      | true ↦ rest
+      | false ↦ elim (range b) [ Missing ↦ rest | Found s ↦ record { index = j; span = s } ∷ rest ]
+    ]
+
+-- ---- runs
+
+-- a run of one, of owner h, is a zone with zd = dd = low, zg = gg = high
+unfoldable pub begin : ℕ → Member → Zone
+begin h m =
+    record {
+      «sup_idx» = h;
+      «start_bar» = m .span .«start_bar»;
+      «end_bar» = m .span .«end_bar»;
+      zd = m .span .low;
+      zg = m .span .high;
+      dd = m .span .low;
+      gg = m .span .high;
+      «first_member» = m .index;
+      members = 1;
+    }
+
+-- The next one joins a run of one when max of lows < min of highs; it joins a longer run when low ≤ zg and high ≥ zd
+unfoldable pub joins : Zone → Span → Bool
+joins z s =
+    cond (eqb (z .members) 1)
+    (lt (higher (z .zd) (s .low)) (lower (z .zg) (s .high)))
+    (le (s .low) (z .zg) && le (z .zd) (s .high))
+
+-- Joining a run of one, max of lows and min of highs become zd and zg, for good. Joining moves the end bar and widens dd, gg
+unfoldable pub join : Zone → Span → Zone
+join z s =
+    record {
+      «sup_idx» = z .«sup_idx»;
+      «start_bar» = z .«start_bar»;
+      «end_bar» = s .«end_bar»;
+      zd = cond (eqb (z .members) 1) (higher (z .zd) (s .low)) (z .zd);
+      zg = cond (eqb (z .members) 1) (lower (z .zg) (s .high)) (z .zg);
+      dd = lower (z .dd) (s .low);
+      gg = higher (z .gg) (s .high);
+      «first_member» = z .«first_member»;
+      members = suc (z .members);
+    }
+
+-- the zones of a run z that is under way and of the members that follow: one that does not join begins the next run
+unfoldable pub cut : Zone → List Member → List Zone
+cut z [] = z ∷ []
+cut z (m ∷ ms) = elim (joins z (m .span)) [ true ↦ cut (join z (m .span)) ms | false ↦ z ∷ cut (begin (z .«sup_idx») m) ms ]
+
+-- opposing records, in order, are cut into runs
+unfoldable pub runs : ℕ → List Member → List Zone
+runs h [] = []
+runs h (m ∷ ms) = cut (begin h m) ms
+
+-- ---- owners
+
+-- an owner's records, from first to last
+unfoldable pub within : List Triple → Triple → List Triple
+within level s = take (suc (s .last) - s .first) (drop (s .first) level)
+
+unfoldable pub opposingOf : (Triple → Range) → List Triple → Triple → List Member
+opposingOf range level s = opposing range (s .direction) (s .first) (within level s)
+
+-- the zones of owner h; one with last ≥ the level's count is skipped
+unfoldable pub zonesOf : (Triple → Range) → List Triple → ℕ → Triple → List Zone
+zonesOf range level h s =
+    let zones = runs h (opposingOf range level s) in
+    cond (ltb (s .last) (length level)) zones []
+
+-- the zones of the owners from index h on, in order
+unfoldable pub zonesFrom : (Triple → Range) → List Triple → ℕ → List Triple → List Zone
+zonesFrom range level h [] = []
+zonesFrom range level h (s ∷ ss) = zonesOf range level h s ++ zonesFrom range level (suc h) ss
+
+-- the members of a zone: that many opposing records of its owner, in order from the first
+unfoldable pub membersIn : (Triple → Range) → List Triple → List Triple → Zone → List ℕ
+membersIn range level owners z =
+    elim (getElem? owners (z .«sup_idx»)) [
+      | none ↦ []
+      | some s ↦
+          take (z .members) (keep (λ (j : ℕ). leb (z .«first_member») j) (map (λ (m : Member). m .index) (opposingOf range level s)))
+    ]
+
+-- ---- superiors over bigs
+
+-- (detect_bigseg_zhongshus_by_overlap)
+unfoldable pub overlapZones : Levels → List Zone
+overlapZones c = zonesFrom (rangeOf c) (c .bigs) 0 (c .superiors)
+
+-- the indices of a zone's members among the bigs
+unfoldable pub membersOf : Levels → Zone → List ℕ
+membersOf c z = membersIn (rangeOf c) (c .bigs) (c .superiors) z
