@@ -5,12 +5,12 @@ use native.Mathlib.Omega.{arith}
 use native.Mathlib.Nat.{zero-add}
 use mathlib.Core.Path.{_≡_, refl, sym, subst}
 use mathlib.Core.Logic.{_⊎_, inl, inr}
-use mathlib.Core.Bool.{Bool, true, false, cond}
+use mathlib.Core.Bool.{Bool, true, false, cond, _||_, false≢true}
 use mathlib.Core.List.{List, [], _∷_, _++_, map, append-assoc, List·Memᴰ, List·Memᴰ·head, List·Memᴰ·tail, List·Memᴰ·not-nil, List·Memᴰ·append-cases, Memᴰ·append-left, Memᴰ·append-right}
 use mathlib.Core.Option.{Option, none, some}
 use lib.ListN.{length, take, drop, getD, getElem?, length-append}
 use Rattle.rules.specs.Lists.{keep, find, any, before, behind, andThen, collect, each}
-use Rattle.laws.proofs.Tests.{none-some, or-l, or-r}
+use Rattle.laws.proofs.Tests.{none-some, or-l, or-r, or-i}
 
 module _ {A : Type 0} where
   pub data All (P : A → Type 0) : List A → Type 0 where
@@ -101,6 +101,35 @@ module _ {A : Type 0} where
   all-there [] = nil
   all-there (x ∷ xs) = cons (List·Memᴰ·head refl) (all-map (λ y m. List·Memᴰ·tail m) (all-there xs))
 
+  pub all-both : {P Q R : A → Type 0} {xs : List A} → ((x : A) → P x → Q x → R x) → All P xs → All Q xs → All R xs
+  all-both h nil nil = nil
+  all-both h (cons {x = x} p a) (cons q b) = cons (h x p q) (all-both h a b)
+
+  pub find-in : (p : A → Bool) (xs : List A) (y : A) → find p xs ≡ some y → List·Memᴰ y xs
+  find-in p xs y e = all-find p y (all-there xs) e
+
+  -- a test that no element passes, and one that some does
+  pub any-false : (p : A → Bool) (xs : List A) → any p xs ≡ false → All (λ (x : A). p x ≡ false) xs
+  any-false p [] e = nil
+  any-false p (x ∷ xs) e = cons (or-l (p x) (any p xs) e) (any-false p xs (or-r (p x) (any p xs) e))
+
+  pub false-any : (p : A → Bool) {xs : List A} → All (λ (x : A). p x ≡ false) xs → any p xs ≡ false
+  false-any p nil = refl
+  false-any p (cons {x = x} {xs = xs} h a) = or-i (p x) (any p xs) h (false-any p a)
+
+  pub any-true : (p : A → Bool) (xs : List A) → any p xs ≡ true → (x : A) × List·Memᴰ x xs × (p x ≡ true)
+  any-true p [] e = absurd (false≢true e)
+  any-true p (x ∷ xs) e = go (p x) refl e (any-true p xs)
+    where
+      go : (t : Bool) → p x ≡ t → (t || any p xs) ≡ true → (any p xs ≡ true → (y : A) × List·Memᴰ y xs × (p y ≡ true)) → (y : A) × List·Memᴰ y (x ∷ xs) × (p y ≡ true)
+      go true q f r = (x, List·Memᴰ·head refl, q)
+      go false q f r = let (y, m, h) = r f in (y, List·Memᴰ·tail m, h)
+
+  -- what holds at every place holds of every element
+  pub at-all : {P : A → Type 0} (xs : List A) → ((i : ℕ) (x : A) → getElem? xs i ≡ some x → P x) → All P xs
+  at-all [] h = nil
+  at-all (x ∷ xs) h = cons (h zero x refl) (at-all xs (λ i. h (suc i)))
+
   pub sorted-map : {R S : A → A → Type 0} {xs : List A} → ((x y : A) → R x y → S x y) → Sorted R xs → Sorted S xs
   sorted-map h none-left = none-left
   sorted-map h (then {x = x} a s) = then (all-map (h x) a) (sorted-map h s)
@@ -143,6 +172,11 @@ module _ {A B : Type 0} where
   pub all-image : {P : B → Type 0} {xs : List A} (f : A → B) → All (λ (x : A). P (f x)) xs → All P (map f xs)
   all-image f nil = nil
   all-image f (cons p a) = cons p (all-image f a)
+
+  -- of a list that comes of an answer, and is empty where there is none
+  pub all-answer : {P : B → Type 0} (o : Option A) (f : A → List B) → ((a : A) → o ≡ some a → All P (f a)) → All P (elim o [ none ↦ [] | some a ↦ f a ])
+  all-answer none f h = nil
+  all-answer (some a) f h = h a refl
 
   pub all-each : {P : B → Type 0} {xs : List A} (f : A → List B) → All (λ (x : A). All P (f x)) xs → All P (each f xs)
   all-each f nil = nil

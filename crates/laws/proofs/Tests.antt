@@ -1,7 +1,7 @@
 -- Tests: of `||`, `&&` and `any`, of a refusal that is 0, of a value that both branches have. Lists with one more or one fewer at the end. Assumes nothing.
 use Prim.Native.Nat.{ℕ, suc}
 use mathlib.Core.Path.{_≡_, refl, ap, _∙_}
-use mathlib.Core.Bool.{Bool, true, false, _||_, _&&_, true≢false, false≢true}
+use mathlib.Core.Bool.{Bool, true, false, _||_, _&&_, true≢false, false≢true, cond}
 use mathlib.Core.List.{List, [], _∷_, _++_, getLast?, dropLast}
 use mathlib.Core.Option.{Option, none, some}
 use native.Mathlib.Omega.{arith}
@@ -22,6 +22,11 @@ pub pick-option :
     → P (elim o [ none ↦ x | some a ↦ f a ])
 pick-option P none x f p q = p
 pick-option P (some a) x f p q = q a
+
+-- the same of `cond`, the test's value known in each branch
+pub pick-cond : {A : Type 0} (P : A → Type 0) (b : Bool) (x y : A) → (b ≡ true → P x) → (b ≡ false → P y) → P (cond b x y)
+pick-cond P true x y p q = p refl
+pick-cond P false x y p q = q refl
 
 pub or-l : (a b : Bool) → (a || b) ≡ false → a ≡ false
 or-l true b h = h

@@ -1,5 +1,9 @@
 -- The answer of a call. Assumes nothing.
 use Prim.Native.Nat.{ℕ, zero, suc}
+use mathlib.Core.Bool.{cond}
+use mathlib.Core.List.{List}
+use lib.ListN.{length, take}
+use lib.Dec.{eqb, leb}
 
 -- refused, or what the call gives
 pub data AnswerBy (R A : Type 0) : Type 0 where
@@ -19,3 +23,9 @@ pub record NumberAt : Type 0 where
 unfoldable pub answered : {A : Type 0} → ℕ → A → Answer A
 answered zero a = given a
 answered (suc n) a = refused (suc n)
+
+-- The answer that a struct with a number, a count and an array of rows stands for: the first rows of the array where the number is 0, and
+-- else the number, with a count of 0. A count above the array's size, or one beside a refusal, stands for no answer: no call refuses with 0
+unfoldable pub rowsAnswer : {A : Type 0} → ℕ → ℕ → List A → Answer (List A)
+rowsAnswer zero count rows = cond (leb count (length rows)) (given (take count rows)) (refused 0)
+rowsAnswer (suc n) count rows = cond (eqb count 0) (refused (suc n)) (refused 0)

@@ -1,0 +1,148 @@
+-- The plain machine keeps its levels in order and counts the accepted calls. A live chart whose counts fit, whose levels are in order and
+-- that keeps the overlap rule's zones is never refused with 21, so it answers as the machine does; and only such a chart is not. Assumes nothing.
+use Prim.Native.Nat.{ℕ, suc, _+_, _≤_, min}
+use mathlib.Core.Path.{_≡_, refl}
+use mathlib.Core.Bool.{Bool, true, false, cond, not, _||_}
+use mathlib.Core.List.{List, [], _∷_}
+use native.Mathlib.Omega.{arith}
+use lib.ListN.{length, take}
+use lib.Dec.{eqb, ltb}
+use borrow.Author.Tests.{eqb-true, ltb-false, le-ltb, not-false}
+use Rattle.chart.specs.declared.Zone.{Zone}
+use Rattle.price.proofs.Order.{price-fits}
+use Rattle.chart.specs.declared.Chart.{Chart}
+use Rattle.rules.specs.Lists.{count}
+use Rattle.rules.specs.Records.{Levels, levelsOf}
+use Rattle.rules.specs.Zones.{overlapZones}
+use Rattle.rules.specs.Refusals.{refuse, overfull, badLevels, badChart, brokenStrokes, brokenTriples, brokenLevels, sameZones, badLive}
+use Rattle.rules.specs.Machine.{Call, Machine, empty, zones, refusal, stepped, countUp, step, run, answers}
+use Rattle.rules.specs.Live.{liveRefusal}
+use Rattle.laws.proofs.Tests.{or-l, or-r, pick-cond}
+use Rattle.laws.proofs.Ordered.{InOrder, chart-fit, in-order, not-bad, not-broken}
+use Rattle.laws.proofs.Lists.{all-map}
+use Rattle.laws.proofs.Zones.{zones-bounded, zones-256}
+use Rattle.laws.proofs.Kept.{kept}
+use Rattle.laws.proofs.SameData.{HeldZones, same-zones, same-zones-true}
+
+-- ---- levels in order
+
+pub step-ordered : (m : Machine) → InOrder (m .levels) → (k : Call) → InOrder (step m k .levels)
+unfolding step
+step-ordered m o k =
+    let next : Machine = record { levels = stepped (m .levels) k; count = countUp (m .count) } in
+    let n = refusal (m .levels) k in
+    pick-cond (λ (x : Machine). InOrder (x .levels)) (eqb n 0) next m (λ e. kept (m .levels) o k (eqb-true n 0 e)) (λ e. o)
+
+run-from : (m : Machine) (ks : List Call) → InOrder (m .levels) → InOrder (run m ks .levels)
+unfolding run
+run-from m [] o = o
+run-from m (k ∷ ks) o = run-from (step m k) ks (step-ordered m o k)
+
+empty-ordered : InOrder (empty .levels)
+unfolding empty brokenStrokes brokenTriples
+empty-ordered =
+    record {
+      strokes = record { right = refl; joined = refl; fit = omega arith };
+      segments = record { right = refl; rising = refl; fit = omega arith };
+      bigs = record { right = refl; rising = refl; fit = omega arith };
+      superiors = record { right = refl; rising = refl; fit = omega arith };
+    }
+
+pub run-ordered : (ks : List Call) → InOrder (run empty ks .levels)
+run-ordered ks = run-from empty ks empty-ordered
+
+-- its zones have places
+pub run-zones : (ks : List Call) → length (zones (run empty ks)) ≤ 256
+unfolding zones
+run-zones ks =
+    let c = run empty ks .levels in
+    let o = run-ordered ks in
+    zones-256 c (not-broken c o) (o .bigs .fit)
+
+-- ---- the count
+
+-- how many answers are 0
+abbrev pub accepted : List ℕ → ℕ
+accepted ns = count (λ (n : ℕ). eqb n 0) ns
+
+count-from : (m : Machine) (ks : List Call) → m .count ≤ 4294967295 → run m ks .count ≡ min (m .count + accepted (answers m ks)) 4294967295
+unfolding run answers step
+count-from m [] h = omega arith
+count-from m (k ∷ ks) h = go (eqb (refusal (m .levels) k) 0) (λ (n : Machine). count-from n ks)
+  where
+    next : Bool → Machine
+    next t = cond t (record { levels = stepped (m .levels) k; count = countUp (m .count) }) m
+
+    go :
+        (t : Bool) → ((n : Machine) → n .count ≤ 4294967295 → run n ks .count ≡ min (n .count + accepted (answers n ks)) 4294967295)
+        → run (next t) ks .count ≡ min (m .count + cond t (suc (accepted (answers (next t) ks))) (accepted (answers (next t) ks))) 4294967295
+    go true f = let i = f (next true) (omega arith) in omega arith
+    go false f = f m h
+
+pub count-is : (ks : List Call) → run empty ks .count ≡ min (accepted (answers empty ks)) 4294967295
+unfolding empty
+count-is ks = let e = count-from empty ks (omega arith) in omega arith
+
+-- ---- a live chart that is not refused with 21
+
+zones-held : (c : Levels) → badLevels c ≡ false → HeldZones (overlapZones c)
+zones-held c h =
+    all-map
+    (λ z b.
+    record {
+      zd-held = price-fits (z .zd) (b .zd-price);
+      zg-held = price-fits (z .zg) (b .zg-price);
+      dd-held = price-fits (z .dd) (b .dd-price);
+      gg-held = price-fits (z .gg) (b .gg-price);
+    })
+    (zones-bounded c h)
+
+record Sound (c : Chart) (places : List Zone) (n : ℕ) : Type 0 where
+  room : overfull c ≡ false
+  ordered : InOrder (levelsOf c)
+  few : n ≤ 256
+  same : sameZones (take n places) (overlapZones (levelsOf c)) ≡ true
+
+module _ (c : Chart) (places : List Zone) (n : ℕ) where
+  sound : badLive c places n ≡ false → Sound c places n
+  unfolding badLive badChart
+  sound h =
+      let l = levelsOf c in
+      let b1 = overfull c in
+      let b2 = badLevels l in
+      let b3 = brokenLevels l in
+      let b4 = ltb 256 n in
+      let s = sameZones (take n places) (overlapZones l) in
+      let h4 = or-l (b1 || b2 || b3 || b4) (not s) h in
+      let h3 = or-l (b1 || b2 || b3) b4 h4 in
+      let h2 = or-l (b1 || b2) b3 h3 in
+      let h1 = or-l b1 b2 h2 in
+      record {
+        room = h1;
+        ordered = in-order l (chart-fit c h1) (or-r b1 b2 h2) (or-r (b1 || b2) b3 h3);
+        few = ltb-false 256 n (or-r (b1 || b2 || b3) b4 h4);
+        same = not-false s (or-r (b1 || b2 || b3 || b4) (not s) h);
+      }
+
+  pub not-21-ordered : badLive c places n ≡ false → InOrder (levelsOf c)
+  not-21-ordered h = sound h .ordered
+
+  pub not-21-counts : badLive c places n ≡ false → (overfull c ≡ false) × (n ≤ 256)
+  not-21-counts h = let s = sound h in (s .room, s .few)
+
+  -- the zones that it keeps are the rule's, where their prices are values that an f64 holds
+  pub kept-are : HeldZones (take n places) → badLive c places n ≡ false → take n places ≡ overlapZones (levelsOf c)
+  kept-are p h =
+      let s = sound h in
+      same-zones-true (take n places) (overlapZones (levelsOf c)) p (zones-held (levelsOf c) (not-bad (levelsOf c) (s .ordered))) (s .same)
+
+  -- ---- and one that keeps the rule's zones
+
+  module _ (f : overfull c ≡ false) (o : InOrder (levelsOf c)) (k : n ≤ 256) (e : take n places ≡ overlapZones (levelsOf c)) where
+    pub never-21 : badLive c places n ≡ false
+    unfolding badLive badChart
+    never-21 = simp (f, not-bad (levelsOf c) o, not-broken (levelsOf c) o, le-ltb 256 n k, e, same-zones)
+
+    pub live-is : (call : Call) → liveRefusal c places n call ≡ refusal (levelsOf c) call
+    unfolding liveRefusal refuse
+    live-is call = rw never-21
