@@ -23,3 +23,10 @@ pub mod EndBars
 pub mod Earlier
 pub mod Quoted
 pub mod Grounds
+pub mod FileSteps
+pub mod FileBytes
+pub mod FileHeld
+pub mod FileBack
+pub mod FileGood
+pub mod FileLong
+pub mod FileCode

@@ -130,6 +130,10 @@ module _ {A : Type 0} where
   at-all [] h = nil
   at-all (x ∷ xs) h = cons (h zero x refl) (at-all xs (λ i. h (suc i)))
 
+  pub all-getD : {P : A → Type 0} (d : A) (xs : List A) → ((i : ℕ) → i < length xs → P (getD xs i d)) → All P xs
+  all-getD d [] f = nil
+  all-getD d (x ∷ xs) f = cons (f 0 (omega arith)) (all-getD d xs (λ (i : ℕ) (h : i < length xs). f (suc i) (omega arith)))
+
   pub sorted-map : {R S : A → A → Type 0} {xs : List A} → ((x y : A) → R x y → S x y) → Sorted R xs → Sorted S xs
   sorted-map h none-left = none-left
   sorted-map h (then {x = x} a s) = then (all-map (h x) a) (sorted-map h s)

@@ -1,0 +1,185 @@
+-- One record as bytes: what is written is read back, and what is read of bytes can be written. Assumes nothing.
+use Prim.Native.Nat.{ℕ, zero, suc, _^_, _<_}
+use native.Mathlib.Nat.{pow-suc}
+use native.Mathlib.Omega.{arith}
+use mathlib.Core.Path.{_≡_, refl, ap, _∙_}
+use mathlib.Core.Bool.{Bool, false, cond, not, _||_}
+use mathlib.Core.List.{List, _++_, append-assoc}
+use lib.ListN.{length, take, length-append}
+use lib.Dec.{leb}
+use lib.Ieee.{Float, binary64, ofBits, toBits}
+use lib.Ieee.Bits.{ofBits-toBits, toBits-lt}
+use borrow.Author.Tests.{ltb-false, leb-false, lt-leb, not-false}
+use Rattle.chart.specs.declared.Stroke.{Stroke}
+use Rattle.chart.specs.declared.Triple.{Triple}
+use Rattle.price.specs.Price.{isPrice}
+use Rattle.price.specs.Bytes.{bytesOf, ofBytes, priceBytes, readBits}
+use Rattle.price.specs.declared.PriceRead.the-variants.{Price, NotPrice}
+use Rattle.price.proofs.Order.{price-fits}
+use Rattle.price.proofs.Bits.{price-bits}
+use Rattle.price.proofs.Bytes.{ofBytes-bytesOf}
+use Rattle.rules.specs.Text.{ascii}
+use Rattle.rules.specs.Refusals.{refuse, aboveOne, badPrices}
+use Rattle.rules.specs.Answer.{given}
+use Rattle.rules.specs.File.{
+  Kind,
+  ST,
+  SG,
+  BG,
+  SU,
+  BR,
+  markOf,
+  width,
+  Record,
+  stroke,
+  segment,
+  big,
+  superior,
+  bar,
+  kind,
+  number,
+  price,
+  strokeIn,
+  tripleIn,
+  recordIn,
+  strokeBytes,
+  tripleBytes,
+  fieldBytes,
+  recordBytes,
+  fieldRefusal,
+  readRecord,
+}
+use Rattle.laws.proofs.Tests.{or-l, or-r, or-i, refuse-no, refuse-on}
+use Rattle.laws.proofs.Lists.{All, nil, cons, all-drop}
+use Rattle.laws.proofs.FileSteps.{read-known, behind-given}
+
+-- ---- a record that can be written
+
+-- a bar or an index that no u16 holds
+abbrev pub wideTwo : ℕ → ℕ → Bool
+wideTwo a b = leb 65536 a || leb 65536 b
+
+unfoldable pub wide : Record → Bool
+wide (stroke s) = wideTwo (s .«start_bar») (s .«end_bar»)
+wide (segment t) = wideTwo (t .first) (t .last)
+wide (big t) = wideTwo (t .first) (t .last)
+wide (superior t) = wideTwo (t .first) (t .last)
+wide (bar h l) = false
+
+pub record Good (r : Record) : Type 0 where
+  pub right : fieldRefusal r ≡ 0
+  pub narrow : wide r ≡ false
+
+-- ---- it is read back
+
+price-back : (x : Float) → not (isPrice x) ≡ false → ofBits binary64 (ofBytes (priceBytes x)) ≡ x
+price-back x e =
+    let f = price-fits x (not-false _ e) in
+    ap (ofBits binary64) (ofBytes-bytesOf 8 (toBits binary64 x) (toBits-lt binary64 x f)) ∙ ofBits-toBits binary64 x f
+
+two-back : (a b : ℕ) → wideTwo a b ≡ false → (ofBytes (bytesOf 2 a) ≡ a) × (ofBytes (bytesOf 2 b) ≡ b)
+two-back a b w =
+    let f = leb-false 65536 a (or-l (leb 65536 a) (leb 65536 b) w) in
+    let g = leb-false 65536 b (or-r (leb 65536 a) (leb 65536 b) w) in
+    (ofBytes-bytesOf 2 a (omega arith), ofBytes-bytesOf 2 b (omega arith))
+
+direction-back : (d k : ℕ) → refuse (aboveOne d) 2 k ≡ 0 → ofBytes (bytesOf 1 d) ≡ d
+direction-back d k e = let h = ltb-false 1 d (refuse-no (aboveOne d) 1 k e) in ofBytes-bytesOf 1 d (omega arith)
+
+triple-back :
+    (t : Triple) (rest : List ℕ) → refuse (aboveOne (t .direction)) 2 0 ≡ 0 → wideTwo (t .first) (t .last) ≡ false → tripleIn (tripleBytes t ++ rest) ≡ t
+unfolding tripleIn number tripleBytes bytesOf
+triple-back t rest d w = let i = two-back (t .first) (t .last) w in rw (direction-back (t .direction) 0 d, i .0, i .1)
+
+stroke-back : (s : Stroke) (rest : List ℕ) → Good (stroke s) → strokeIn (strokeBytes s ++ rest) ≡ s
+unfolding strokeIn number price strokeBytes bytesOf fieldRefusal wide badPrices
+stroke-back s rest g =
+    let both = refuse-no (badPrices s) 0 0 (refuse-on (aboveOne (s .direction)) 1 _ (g .right)) in
+    let p = not (isPrice (s .«start_price»)) in
+    let q = not (isPrice (s .«end_price»)) in
+    let i = two-back (s .«start_bar») (s .«end_bar») (g .narrow) in
+    rw (
+      direction-back (s .direction) _ (g .right),
+      i .0,
+      i .1,
+      price-back (s .«start_price») (or-l p q both),
+      price-back (s .«end_price») (or-r p q both),
+    )
+
+bar-back : (h l : Float) (rest : List ℕ) → Good (bar h l) → recordIn BR ((priceBytes h ++ priceBytes l) ++ rest) ≡ bar h l
+unfolding recordIn number price bytesOf fieldRefusal
+bar-back h l rest g =
+    let p = not (isPrice h) in
+    let q = not (isPrice l) in
+    let both = refuse-no (p || q) 0 0 (g .right) in
+    rw (price-back h (or-l p q both), price-back l (or-r p q both))
+
+fields-back : (r : Record) (rest : List ℕ) → Good r → recordIn (kind r) (fieldBytes r ++ rest) ≡ r
+unfolding recordIn kind fieldBytes fieldRefusal wide
+fields-back (stroke s) rest g = ap stroke (stroke-back s rest g)
+fields-back (segment t) rest g = ap segment (triple-back t rest (g .right) (g .narrow))
+fields-back (big t) rest g = ap big (triple-back t rest (g .right) (g .narrow))
+fields-back (superior t) rest g = ap superior (triple-back t rest (g .right) (g .narrow))
+fields-back (bar h l) rest g = bar-back h l rest g
+
+pub length-fields : (r : Record) → length (fieldBytes r) ≡ width (kind r)
+unfolding fieldBytes strokeBytes tripleBytes bytesOf width kind
+length-fields (stroke s) = refl
+length-fields (segment t) = refl
+length-fields (big t) = refl
+length-fields (superior t) = refl
+length-fields (bar h l) = refl
+
+length-mark : (k : Kind) → length (markOf k) ≡ 2
+unfolding markOf ascii
+length-mark ST = refl
+length-mark SG = refl
+length-mark BG = refl
+length-mark SU = refl
+length-mark BR = refl
+
+pub length-record : (r : Record) → length (recordBytes r) ≡ suc (suc (width (kind r)))
+unfolding recordBytes
+length-record r = omega (arith, length-append (markOf (kind r)) (fieldBytes r), length-mark (kind r), length-fields r)
+
+pub record-back :
+    (fullOf : Kind → Bool) (r : Record) (rest : List ℕ) → Good r → fullOf (kind r) ≡ false → readRecord fullOf (recordBytes r ++ rest) ≡ given r
+unfolding recordBytes
+record-back fullOf r rest g f =
+    let bytes = fieldBytes r ++ rest in
+    let same = fields-back r rest g in
+    ap (readRecord fullOf) (append-assoc (markOf (kind r)) (fieldBytes r) rest)
+    ∙ read-known fullOf (kind r) bytes
+    ∙ behind-given fullOf bytes (kind r) (omega (arith, length-append (fieldBytes r) rest, length-fields r)) f (ap fieldRefusal same ∙ g .right)
+    ∙ ap given same
+
+-- ---- where the numbers of a file are bytes
+
+abbrev pub Byte : ℕ → Type 0
+Byte b = b < 256
+
+ofBytes-lt : {l : List ℕ} (k : ℕ) → All Byte l → ofBytes (take k l) < 256 ^ k
+unfolding ofBytes
+ofBytes-lt zero B = omega arith
+ofBytes-lt (suc k) nil = rw (pow-suc 256 k) (omega (arith, ofBytes-lt k nil))
+ofBytes-lt (suc k) (cons b B) = rw (pow-suc 256 k) (omega (arith, ofBytes-lt k B))
+
+pub number-lt : {l : List ℕ} (i k : ℕ) → All Byte l → number i k l < 256 ^ k
+unfolding number
+number-lt i k B = ofBytes-lt k (all-drop i B)
+
+-- the price in a record is the one that the library reads from its bits
+pub price-read : (i : ℕ) (l : List ℕ) → All Byte l → readBits (number i 8 l) ≡ cond (isPrice (price i l)) (Price (price i l)) NotPrice
+unfolding readBits price
+price-read i l B = rw (price-bits (number i 8 l) (number-lt i 8 B))
+
+narrow-two : (l : List ℕ) → All Byte l → wideTwo (number 1 2 l) (number 3 2 l) ≡ false
+narrow-two l B = or-i _ _ (lt-leb 65536 (number 1 2 l) (number-lt 1 2 B)) (lt-leb 65536 (number 3 2 l) (number-lt 3 2 B))
+
+pub narrow-in : (k : Kind) (l : List ℕ) → All Byte l → wide (recordIn k l) ≡ false
+unfolding wide recordIn strokeIn tripleIn
+narrow-in ST l B = narrow-two l B
+narrow-in SG l B = narrow-two l B
+narrow-in BG l B = narrow-two l B
+narrow-in SU l B = narrow-two l B
+narrow-in BR l B = refl
