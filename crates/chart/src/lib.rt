@@ -31,6 +31,17 @@ pub enum Range {
     Missing,
 }
 
+// A range in an array: a field may be an array of structs, and not one of enums.
+pub struct Slot {
+    pub range: Range,
+}
+
+// The end point of a big: the end bar and end price of the last stroke of its last segment. (Option<(usize, f64)>)
+pub enum EndPoint {
+    At(u16, f64),
+    Nowhere,
+}
+
 // An overlap zone: the index of its superior, its bars and its four prices. Added: the index among the bigs of its first member,
 // and how many opposing bigs of the superior, in order from that one, are its members. (BigSegmentZhongShu)
 pub struct Zone {

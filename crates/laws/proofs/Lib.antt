@@ -30,3 +30,4 @@ pub mod FileBack
 pub mod FileGood
 pub mod FileLong
 pub mod FileCode
+pub mod Arrays

@@ -171,25 +171,32 @@ mag-lt f s m e h =
 
 -- ---- the laws of the order, for every finite value that the format holds, -0 included
 
+-- what holds of every two values with digits holds of every two that are finite
+by-digits :
+    (f : Format) (R : Float → Float → Type 0)
+    → ((s : Bool) (m : ℕ) (e : ℤ) (t : Bool) (n : ℕ) (d : ℤ) → T (fits f (fin s m e)) → T (fits f (fin t n d)) → R (fin s m e) (fin t n d))
+    → (x y : Float) → T (finite x) → T (finite y) → T (fits f x) → T (fits f y) → R x y
+by-digits f R g nan y p q h k = absurd p
+by-digits f R g (inf s) y p q h k = absurd p
+by-digits f R g (fin s m e) nan p q h k = absurd q
+by-digits f R g (fin s m e) (inf t) p q h k = absurd q
+by-digits f R g (fin s m e) (fin t n d) p q h k = g s m e t n d h k
+
 pub keyOf-lt : (f : Format) (x y : Float) → T (finite x) → T (finite y) → T (fits f x) → T (fits f y) → lt x y ≡ ltb (keyOf f x) (keyOf f y)
 unfolding keyOf lt
-keyOf-lt f nan y p q h k = absurd p
-keyOf-lt f (inf s) y p q h k = absurd p
-keyOf-lt f (fin s m e) nan p q h k = absurd q
-keyOf-lt f (fin s m e) (inf t) p q h k = absurd q
-keyOf-lt f (fin s m e) (fin t n d) p q h k =
+keyOf-lt f =
+    by-digits f (λ (x y : Float). lt x y ≡ ltb (keyOf f x) (keyOf f y))
+    (λ s m e t n d h k.
     below-units (low f) s m e t n d (deep f s m e h) (deep f t n d k)
-    ∙ place-lt (mid f) s (m * scale (low f) e) t (n * scale (low f) d) (mag-lt f s m e h) (mag-lt f t n d k)
+    ∙ place-lt (mid f) s (m * scale (low f) e) t (n * scale (low f) d) (mag-lt f s m e h) (mag-lt f t n d k))
 
 pub keyOf-eq : (f : Format) (x y : Float) → T (finite x) → T (finite y) → T (fits f x) → T (fits f y) → eq x y ≡ eqb (keyOf f x) (keyOf f y)
 unfolding keyOf eq
-keyOf-eq f nan y p q h k = absurd p
-keyOf-eq f (inf s) y p q h k = absurd p
-keyOf-eq f (fin s m e) nan p q h k = absurd q
-keyOf-eq f (fin s m e) (inf t) p q h k = absurd q
-keyOf-eq f (fin s m e) (fin t n d) p q h k =
+keyOf-eq f =
+    by-digits f (λ (x y : Float). eq x y ≡ eqb (keyOf f x) (keyOf f y))
+    (λ s m e t n d h k.
     level-units (low f) s m e t n d (deep f s m e h) (deep f t n d k)
-    ∙ place-eq (mid f) s (m * scale (low f) e) t (n * scale (low f) d) (mag-lt f s m e h) (mag-lt f t n d k)
+    ∙ place-eq (mid f) s (m * scale (low f) e) t (n * scale (low f) d) (mag-lt f s m e h) (mag-lt f t n d k))
 
 or-leb : (a b : ℕ) → (ltb a b || eqb a b) ≡ leb a b
 or-leb a b = same (ltb a b || eqb a b) (leb a b) (λ u. le→leb a b (elim (or-split (ltb a b) (eqb a b) u) [ inl v ↦ omega tests | inr v ↦ omega tests ])) (λ u. go (eq-or-lt-of-le (leb→le a b u)))

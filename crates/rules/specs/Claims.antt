@@ -7,18 +7,21 @@ use mathlib.Core.List.{List, List·Memᴰ}
 use mathlib.Core.Option.{some}
 use lib.ListN.{getElem?}
 use lib.Ieee.{Float, le, lt}
+use Rattle.chart.specs.declared.Stroke.{Stroke}
 use Rattle.chart.specs.declared.Triple.{Triple}
 use Rattle.chart.specs.declared.Zone.{Zone}
 use Rattle.chart.specs.declared.Ground.{Ground}
 use Rattle.chart.specs.declared.Ground.the-variants as ground
 use Rattle.chart.specs.declared.ThirdMark.{ThirdMark}
 use Rattle.chart.specs.declared.NMark.{NMark}
-use Rattle.rules.specs.Records.{Quotes}
-use Rattle.rules.specs.Marks.{quote}
+use Rattle.rules.specs.Records.{Levels, Quotes}
+use Rattle.rules.specs.Zones.{overlapZones}
+use Rattle.rules.specs.Marks.{quote, scanned, sideOf, edgeOf, anchorsOf, anchorSide, anchorPrice, anchorBars}
 
 -- ---- members
 
--- record j of a level is an opposing one of owner h: it lies from the owner's first to its last, and its direction differs
+-- record j of a level is an opposing one of owner h: it lies from the owner's first to its last, and its direction differs. That its range is not
+-- missing is not asked: in a chart that calls have left none is
 pub record Opposes (level owners : List Triple) (h j : ℕ) : Type 0 where
   pub owner : Triple
   pub item : Triple
@@ -61,6 +64,30 @@ named (ground.Anchor p) = p
 pub record Beyond (q : Quotes) (m : ThirdMark) : Type 0 where
   pub quoted : quote q (m .«is_buy») (m .«bar_index») ≡ some (m .price)
   pub beyond : cond (m .«is_buy») (lt (named (m .ground)) (m .price)) (lt (m .price) (named (m .ground))) ≡ true
+
+-- A zone edge p that a mark names is the edge of a zone of the chart, of the mark's side, whose scan meets the mark's bar
+pub record OfZone (c : Levels) (m : ThirdMark) (p : Float) : Type 0 where
+  pub zone : Zone
+  pub there : List·Memᴰ zone (overlapZones c)
+  pub edge : p ≡ edgeOf c zone
+  pub side : m .«is_buy» ≡ sideOf c zone
+  pub bar : List·Memᴰ (m .«bar_index») (scanned c (overlapZones c) zone)
+
+-- a price C that a mark names is that of an anchor of the chart, of the mark's side, and the mark's bar is one of the anchor's bars
+pub record OfAnchor (c : Levels) (m : ThirdMark) (p : Float) : Type 0 where
+  pub anchor : Stroke
+  pub there : List·Memᴰ anchor (anchorsOf c (c .superiors))
+  pub price : anchorPrice c (anchorSide (c .superiors)) anchor ≡ some p
+  pub side : m .«is_buy» ≡ anchorSide (c .superiors)
+  pub bar : List·Memᴰ (m .«bar_index») (anchorBars c (anchorSide (c .superiors)) anchor)
+
+-- a third mark can be traced to the ground it names
+abbrev pub From : Levels → ThirdMark → Ground → Type 0
+From c m (ground.Zone p) = OfZone c m p
+From c m (ground.Anchor p) = OfAnchor c m p
+
+abbrev pub Traced : Levels → ThirdMark → Type 0
+Traced c m = From c m (m .ground)
 
 -- among marks there is one of order 0, of this mark's side, at an earlier bar
 pub record Earlier (ms : List NMark) (m : NMark) : Type 0 where
