@@ -31,14 +31,19 @@ pub fn price_bits(n: u64) -> bool
     n != 0x8000_0000_0000_0000
 }
 
-// Whether x is a price.
+// Whether x is a price. Most are above 0, so they are tested first; of 0, -0 and NaN only 0 has an inverse above 0.
 pub fn is_price(x: f64) -> bool
     ensures { λ r. ⌜ r ≡ isPrice x ⌝ }
 {
-    if x != x {
-        return false;
+    // infinity, which no constant holds
+    let top = f64::from_bits(0x7FF0_0000_0000_0000);
+    if 0.0 < x {
+        return x < top;
     }
-    price_bits(f64::to_bits(x))
+    if x < 0.0 {
+        return -top < x;
+    }
+    0.0 < 1.0 / x
 }
 
 // What eight bytes or a bit pattern hold.
