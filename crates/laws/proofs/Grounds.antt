@@ -1,10 +1,10 @@
 -- Every third mark can be traced: a zone's edge to a zone of the overlap rule, a price C to an anchor. For every chart and all lent prices.
 -- Assumes nothing.
-use mathlib.Core.Path.{_≡_, refl}
+use mathlib.Core.Path.{refl}
 use Rattle.rules.specs.Records.{Levels, Quotes}
 use Rattle.rules.specs.Zones.{overlapZones}
 use Rattle.rules.specs.Marks.{beats, scanned, thirdAt, sideOf, edgeOf, anchorSide, anchorBars, thirdMarks}
-use Rattle.rules.specs.Claims.{OfZone, OfAnchor, Traced}
+use Rattle.rules.specs.Claims.{Traced}
 use Rattle.laws.proofs.Lists.{All, find-in}
 use Rattle.laws.proofs.Thirds.{thirds-all}
 

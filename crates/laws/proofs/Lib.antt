@@ -31,3 +31,4 @@ pub mod FileGood
 pub mod FileLong
 pub mod FileCode
 pub mod Arrays
+pub mod Answers

@@ -1,0 +1,4 @@
+pub mod Names
+pub mod Touching
+pub mod Steps
+pub mod Call

@@ -1,0 +1,96 @@
+-- What a result's struct stands for, and a call on a chart behind its 21. Assumes nothing.
+use Prim.Native.Nat.{ℕ, zero, suc, _≤_, _<_}
+use native.Mathlib.Omega.{arith}
+use mathlib.Core.Path.{_≡_, refl, sym}
+use mathlib.Core.Bool.{Bool, true, false, cond, _||_}
+use mathlib.Core.List.{List}
+use lib.ListN.{length, take}
+use lib.Dec.{eqb, leb, ltb}
+use borrow.Author.Tests.{le-leb, leb-true, ltb-false}
+use Rattle.chart.specs.declared.Chart.{Chart}
+use Rattle.rules.specs.Answer.{Answer, refused, given, answered, rowsAnswer}
+use Rattle.rules.specs.Records.{Levels, levelsOf}
+use Rattle.rules.specs.Refusals.{overfull, badLevels, badChart}
+use Rattle.rules.specs.Calls.{onChart}
+use Rattle.laws.proofs.Tests.{or-l, or-r}
+
+module _ {A : Type 0} (rows : List A) where
+  pub refused-rows : (n : ℕ) → 0 < n → rowsAnswer n 0 rows ≡ refused n
+  unfolding rowsAnswer
+  refused-rows zero h = absurd (omega arith)
+  refused-rows (suc n) h = refl
+
+  pub given-rows : (count : ℕ) → count ≤ length rows → rowsAnswer 0 count rows ≡ given (take count rows)
+  unfolding rowsAnswer
+  given-rows count h = rw (le-leb count (length rows) h)
+
+refused-given : {A : Type 0} {n : ℕ} {a : A} → _≡_ {A = Answer A} (refused n) (given a) → ⊥
+refused-given e = let z : _≡_ {A = ℕ} 0 1 = cc in omega arith
+
+pub answered-refused : {A : Type 0} (r n : ℕ) (a : A) → (n ≡ 0 → ⊥) → r ≡ n → answered r a ≡ refused n
+unfolding answered
+answered-refused zero n a h e = absurd (h (sym e))
+answered-refused (suc r) n a h e = rw e
+
+-- what a struct that stands for an answer has: the rows that are given, or the number of the refusal
+module _ {A : Type 0} (count : ℕ) (rows : List A) (r : ℕ) (l : List A) where
+  pub record Rows : Type 0 where
+    pub accepted : r ≡ 0
+    pub few : count ≤ length rows
+    pub same : take count rows ≡ l
+
+  pub rows-given : rowsAnswer 0 count rows ≡ answered r l → Rows
+  unfolding rowsAnswer answered
+  rows-given e = go (leb count (length rows)) refl r refl e
+    where
+      go :
+          (t : Bool) → leb count (length rows) ≡ t → (k : ℕ) → r ≡ k
+          → cond t (given (take count rows)) (refused 0) ≡ answered k l → Rows
+      go true f zero g h = record { accepted = g; few = leb-true count (length rows) f; same = cc }
+      go true f (suc k) g h = absurd (refused-given (sym h))
+      go false f zero g h = absurd (refused-given h)
+      go false f (suc k) g h = let z : 0 ≡ suc k = cc in absurd (omega arith)
+
+  pub rows-refused : (n : ℕ) → (n ≡ 0 → ⊥) → rowsAnswer n count rows ≡ answered r l → r ≡ n
+  unfolding rowsAnswer answered
+  rows-refused zero h e = absurd (h refl)
+  rows-refused (suc n) h e = go (eqb count 0) r refl e
+    where
+      go : (t : Bool) (k : ℕ) → r ≡ k → cond t (refused (suc n)) (refused 0) ≡ answered k l → r ≡ suc n
+      go true zero g f = absurd (refused-given f)
+      go true (suc k) g f = let z : suc n ≡ suc k = cc in omega arith
+      go false zero g f = absurd (refused-given f)
+      go false (suc k) g f = let z : 0 ≡ suc k = cc in absurd (omega arith)
+
+module _ {A : Type 0} (c : Chart) (f : Levels → Answer A) where
+  pub on-bad : badChart c ≡ true → onChart c f ≡ refused 21
+  unfolding onChart
+  on-bad e = rw e
+
+  pub on-good : badChart c ≡ false → onChart c f ≡ f (levelsOf c)
+  unfolding onChart
+  on-good e = rw e
+
+-- a chart that is not refused with 21 has counts within its arrays
+pub record Counted (c : Chart) : Type 0 where
+  pub strokes : c .«stroke_count» ≤ 512
+  pub segments : c .«segment_count» ≤ 256
+  pub bigs : c .«big_count» ≤ 256
+  pub superiors : c .«superior_count» ≤ 256
+
+pub counted : (c : Chart) → badChart c ≡ false → Counted c
+unfolding badChart overfull
+counted c h =
+    let f0 = ltb 512 (c .«stroke_count») in
+    let f1 = ltb 256 (c .«segment_count») in
+    let f2 = ltb 256 (c .«big_count») in
+    let f3 = ltb 256 (c .«superior_count») in
+    let f = or-l (f0 || f1 || f2 || f3) (badLevels (levelsOf c)) h in
+    let f012 = or-l (f0 || f1 || f2) f3 f in
+    let f01 = or-l (f0 || f1) f2 f012 in
+    record {
+      strokes = ltb-false 512 (c .«stroke_count») (or-l f0 f1 f01);
+      segments = ltb-false 256 (c .«segment_count») (or-r f0 f1 f01);
+      bigs = ltb-false 256 (c .«big_count») (or-r (f0 || f1) f2 f012);
+      superiors = ltb-false 256 (c .«superior_count») (or-r (f0 || f1 || f2) f3 f);
+    }

@@ -1,0 +1,28 @@
+-- The range of a big by records that were read at indices made safe. Assumes nothing.
+use Prim.Native.Nat.{ℕ, _<_}
+use mathlib.Core.Path.{_≡_}
+use mathlib.Core.Bool.{Bool, cond, _&&_}
+use mathlib.Core.Option.{Option, none, some}
+use lib.Dec.{leb, ltb}
+use Rattle.chart.specs.declared.Stroke.{Stroke}
+use Rattle.chart.specs.declared.Triple.{Triple}
+use Rattle.chart.specs.declared.Range.{Range}
+use Rattle.chart.specs.declared.Range.the-variants.{Missing}
+use Rattle.rules.specs.Ranges.{spanned}
+
+-- k is a place among n, and i itself where i is one
+pub record Within (i n k : ℕ) : Type 0 where
+  pub below : k < n
+  pub same : i < n → k ≡ i
+
+-- a record that is there where a test holds
+abbrev pub heldIf : {A : Type 0} → Bool → A → Option A
+heldIf t x = cond t (some x) none
+
+-- Of the big b in a chart of m segments and n strokes, where a and z are the segments at b's first and last, s and e the strokes at a's
+-- first and z's last. A record counts only where its index is below its number
+unfoldable pub rangeFrom : ℕ → ℕ → Triple → Triple → Triple → Stroke → Stroke → Range
+rangeFrom m n b a z s e =
+    cond (leb (b .first) (b .last))
+    (spanned (heldIf (ltb (b .first) m && ltb (a .first) n) s) (heldIf (ltb (b .last) m && ltb (z .last) n) e))
+    Missing

@@ -1,0 +1,231 @@
+// What every call on a chart begins with: refusal 21, the ranges of all bigs, and the end point of one.
+use chart::Chart;
+use chart::EndPoint;
+use chart::Range;
+use chart::Slot;
+use chart::Span;
+use chart::Stroke;
+use chart::Triple;
+ghost use mathlib.Core.Path.{_≡_};
+ghost use mathlib.Core.Bool.{_||_};
+ghost use mathlib.Core.List.{map};
+ghost use mathlib.Core.Option.{some};
+ghost use Prim.Native.Nat.{_≤_, _<_, min};
+ghost use lib.Dec.{ltb};
+ghost use lib.ListN.{take};
+ghost use Rattle.rules.specs.Lists.{any};
+ghost use Rattle.rules.specs.Records.{levelsOf};
+ghost use Rattle.rules.specs.Ranges.{spanned, rangeOf, endPoint};
+ghost use Rattle.rules.specs.Refusals.{wrongStroke, wrongTriple, badChart};
+ghost use Rattle.chart.specs.Table.{rangesIn, pointOf};
+ghost use Rattle.levels.specs.Read.{Within, rangeFrom};
+
+// ---- refusal 21
+
+// Whether a stroke has a direction above 1 or a price that isn't one.
+fn wrong_stroke(s: Stroke) -> bool
+    ensures { λ r. ⌜ r ≡ wrongStroke s ⌝ }
+{
+    if 1 < s.direction {
+        return true;
+    }
+    if price::is_price(s.start_price) {
+        return !price::is_price(s.end_price);
+    }
+    true
+}
+
+// Whether one of the first n triples has a direction above 1.
+fn wrong_triples(triples: [Triple; 256], n: u16) -> bool
+    requires { ⌜ n ≤ 256 ⌝ }
+    ensures { λ r. ⌜ r ≡ any wrongTriple (take n triples) ⌝ }
+{
+    let mut i = 0u16;
+    while i < n {
+        if 1 < triples[i as usize].direction {
+            return true;
+        }
+        i += 1;
+    }
+    false
+}
+
+// Whether a level's count is above its size.
+fn overfull(strokes: u16, segments: u16, bigs: u16, superiors: u16) -> bool
+    ensures { λ r. ⌜ r ≡ (ltb 512 strokes || ltb 256 segments || ltb 256 bigs || ltb 256 superiors) ⌝ }
+{
+    if 512 < strokes {
+        return true;
+    }
+    if 256 < segments {
+        return true;
+    }
+    if 256 < bigs {
+        return true;
+    }
+    256 < superiors
+}
+
+// Refusal 21 of a loaded chart. The strokes are tested where they lie.
+pub fn bad_chart(chart: Chart) -> bool
+    ensures { λ r. ⌜ r ≡ badChart chart ⌝ }
+{
+    let count = chart.stroke_count;
+    if overfull(
+        count,
+        chart.segment_count,
+        chart.big_count,
+        chart.superior_count,
+    ) {
+        return true;
+    }
+    let segments = chart.segments;
+    if wrong_triples(segments, chart.segment_count) {
+        return true;
+    }
+    let bigs = chart.bigs;
+    if wrong_triples(bigs, chart.big_count) {
+        return true;
+    }
+    let superiors = chart.superiors;
+    if wrong_triples(superiors, chart.superior_count) {
+        return true;
+    }
+    let mut i = 0u16;
+    while i < count {
+        let s = chart.strokes[i as usize];
+        if wrong_stroke(s) {
+            return true;
+        }
+        i += 1;
+    }
+    false
+}
+
+// ---- ranges
+
+// A count, or the size of its array where it is above that: either way the same list.
+fn at_most(n: u16, size: u16) -> u16
+    ensures { λ r. ⌜ r ≡ min n size ⌝ }
+{
+    if n < size { n } else { size }
+}
+
+// i where it is below n, and 0 elsewhere.
+fn within(i: u16, n: u16) -> usize
+    requires { ⌜ 0 < n ⌝ }
+    ensures { λ r. ⌜ Within i n r ⌝ }
+{
+    if i < n { i as usize } else { 0 }
+}
+
+// From the start of one stroke to the end of another.
+fn span_of(s: Stroke, e: Stroke) -> Range
+    ensures { λ r. ⌜ r ≡ spanned (some s) (some e) ⌝ }
+{
+    Range::Found(Span {
+        low: price::lower(s.start_price, e.end_price),
+        high: price::higher(s.start_price, e.end_price),
+        start_bar: s.start_bar,
+        end_bar: e.end_bar,
+    })
+}
+
+// The range of the big b in a chart with these numbers of segments and strokes: a and z are its first and last segment, s the first stroke
+// of a and e the last of z, each of them where it is there.
+fn range_from(
+    b: Triple,
+    a: Triple,
+    z: Triple,
+    s: Stroke,
+    e: Stroke,
+    segments: u16,
+    strokes: u16,
+) -> Range
+    ensures { λ r. ⌜ r ≡ rangeFrom segments strokes b a z s e ⌝ }
+{
+    if b.last < b.first {
+        return Range::Missing;
+    }
+    if segments <= b.last {
+        return Range::Missing;
+    }
+    if strokes <= a.first {
+        return Range::Missing;
+    }
+    if strokes <= z.last {
+        return Range::Missing;
+    }
+    span_of(s, e)
+}
+
+// The range of a big.
+pub fn resolve_bigseg_range(chart: Chart, big: Triple) -> Range
+    ensures { λ r. ⌜ r ≡ rangeOf (levelsOf chart) big ⌝ }
+{
+    let segments = at_most(chart.segment_count, 256);
+    let strokes = at_most(chart.stroke_count, 512);
+    let i = within(big.first, 256);
+    let j = within(big.last, 256);
+    let a = chart.segments[i];
+    let z = chart.segments[j];
+    let p = within(a.first, 512);
+    let q = within(z.last, 512);
+    let s = chart.strokes[p];
+    let e = chart.strokes[q];
+    range_from(big, a, z, s, e, segments, strokes)
+}
+
+// The ranges of the bigs, in their places.
+pub struct Ranges {
+    pub slots: [Slot; 256],
+}
+
+// The ranges of all bigs, once: a call on the chart for each would copy the chart.
+pub fn ranges_of(chart: Chart) -> Ranges
+    ensures { λ r. ⌜ rangesIn (chart .«big_count») (r .slots) ≡ map (rangeOf (levelsOf chart)) (levelsOf chart .bigs) ⌝ }
+{
+    let segments = at_most(chart.segment_count, 256);
+    let strokes = at_most(chart.stroke_count, 512);
+    let n = at_most(chart.big_count, 256) as usize;
+    let none = Range::Missing;
+    let slot = Slot { range: none };
+    let mut slots = [slot; 256];
+    let mut k = 0usize;
+    while k < n {
+        let b = chart.bigs[k];
+        let i = within(b.first, 256);
+        let j = within(b.last, 256);
+        let a = chart.segments[i];
+        let z = chart.segments[j];
+        let p = within(a.first, 512);
+        let q = within(z.last, 512);
+        let s = chart.strokes[p];
+        let e = chart.strokes[q];
+        let range = range_from(b, a, z, s, e, segments, strokes);
+        slots[k] = Slot { range };
+        k += 1;
+    }
+    Ranges { slots }
+}
+
+// ---- end points
+
+// The end point of the big with an index, whether its range is missing or not.
+pub fn resolve_sup_end_point(chart: Chart, big: u16) -> EndPoint
+    ensures { λ r. ⌜ r ≡ pointOf (endPoint (levelsOf chart) big) ⌝ }
+{
+    if at_most(chart.big_count, 256) <= big {
+        return EndPoint::Nowhere;
+    }
+    let b = chart.bigs[big as usize];
+    if at_most(chart.segment_count, 256) <= b.last {
+        return EndPoint::Nowhere;
+    }
+    let z = chart.segments[b.last as usize];
+    if at_most(chart.stroke_count, 512) <= z.last {
+        return EndPoint::Nowhere;
+    }
+    let e = chart.strokes[z.last as usize];
+    EndPoint::At(e.end_bar, e.end_price)
+}

@@ -1,0 +1,58 @@
+-- `zone_vectors::print_zones` meets its contract. Assumes nothing.
+use Prim.Native.Nat.{_-_, _≤_}
+use borrow.Author.Needs.{needs}
+use Rattle.zone_vectors.proofs.print_zones.Statement.{statement}
+use Rattle.zone_vectors.proofs.print_zones.Tie as tie
+
+abbrev Inv-loop : tie.InvT-loop
+Inv-loop count rows i₀ i = i ≤ count
+
+abbrev μ-loop : tie.MeasureT-loop
+μ-loop count rows i₀ i = count - i
+
+loop-holds : tie.Need-loop-holds Inv-loop μ-loop
+loop-holds c = search needs
+
+returns : tie.Need-returns Inv-loop μ-loop
+returns c = search needs
+
+cast-k : tie.Need-cast-k Inv-loop μ-loop
+cast-k c = search needs
+
+mul-print-zone : tie.Need-mul-print-zone Inv-loop μ-loop
+mul-print-zone c = search needs
+
+array-copy-out-print-zone : tie.Need-array-copy-out-print-zone Inv-loop μ-loop
+array-copy-out-print-zone c = search needs
+
+print-zone-requires : tie.Need-print-zone-requires Inv-loop μ-loop
+print-zone-requires c κs = search needs
+
+add-i : tie.Need-add-i Inv-loop μ-loop
+add-i c = search needs
+
+loop-less : tie.Need-loop-less Inv-loop μ-loop
+loop-less c = search needs
+
+loop-again : tie.Need-loop-again Inv-loop μ-loop
+loop-again c = search needs
+
+returns-2 : tie.Need-returns-2 Inv-loop μ-loop
+returns-2 c = search needs
+
+pub print-zones-spec : {M : Type 1} → statement M
+print-zones-spec =
+    tie.close
+    (tie.spec
+    Inv-loop
+    μ-loop
+    loop-holds
+    returns
+    cast-k
+    mul-print-zone
+    array-copy-out-print-zone
+    print-zone-requires
+    add-i
+    loop-less
+    loop-again
+    returns-2)
