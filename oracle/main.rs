@@ -1,0 +1,177 @@
+// Prints what the reference Rust gives for charts. Reading, the refusals and a zone's members, which the reference lacks, are written here
+// from document 01 alone.
+//   oracle one SECTION..   a chart file on standard input
+//   oracle many SECTION..  many: each a length (u32, little-endian) and that many bytes; a line `CHART i` before each
+// Sections: zones labels third threen classes firsts. Third marks have no ground: the reference names none.
+use chanlun::{zhongshu as z, Stroke};
+use std::io::{Read, Write};
+
+type Triple = (usize, usize, bool);
+
+#[derive(Default)]
+struct Chart { strokes: Vec<Stroke>, segments: Vec<Triple>, bigs: Vec<Triple>, superiors: Vec<Triple>, highs: Vec<f64>, lows: Vec<f64> }
+
+fn u16_at(b: &[u8], i: usize) -> usize { b[i] as usize + 256 * b[i + 1] as usize }
+fn f64_at(b: &[u8], i: usize) -> f64 { f64::from_bits(u64::from_le_bytes(b[i..i + 8].try_into().unwrap())) }
+fn is_price(x: f64) -> bool { x.is_finite() && x.to_bits() != 1 << 63 }
+
+// 13 cut short; 12 unknown mark; 3 no place left; 2; 1; with the place of the record's mark
+fn read(b: &[u8], places: usize) -> Result<Chart, (usize, usize)> {
+    let mut c = Chart::default();
+    let mut at = 0;
+    while at < b.len() {
+        if b.len() - at < 2 { return Err((13, at)); }
+        let width = match &b[at..at + 2] { b"ST" => 21, b"SG" | b"BG" | b"SU" => 5, b"BR" => 16, _ => return Err((12, at)) };
+        let r = &b[at + 2..];
+        if r.len() < width { return Err((13, at)); }
+        let full = match &b[at..at + 2] { b"ST" => c.strokes.len() >= 512, b"SG" => c.segments.len() >= 256, b"BG" => c.bigs.len() >= 256, b"SU" => c.superiors.len() >= 256, _ => c.highs.len() >= places };
+        if full { return Err((3, at)); }
+        if &b[at..at + 2] == b"BR" {
+            let (h, l) = (f64_at(r, 0), f64_at(r, 8));
+            if !is_price(h) || !is_price(l) { return Err((1, at)); }
+            c.highs.push(h);
+            c.lows.push(l);
+        } else {
+            if r[0] > 1 { return Err((2, at)); }
+            let (up, a, e) = (r[0] == 1, u16_at(r, 1), u16_at(r, 3));
+            match &b[at..at + 2] {
+                b"ST" => {
+                    let (p, q) = (f64_at(r, 5), f64_at(r, 13));
+                    if !is_price(p) || !is_price(q) { return Err((1, at)); }
+                    c.strokes.push(Stroke { is_up: up, start_bar: a, end_bar: e, start_price: p, end_price: q });
+                }
+                b"SG" => c.segments.push((a, e, up)),
+                b"BG" => c.bigs.push((a, e, up)),
+                _ => c.superiors.push((a, e, up)),
+            }
+        }
+        at += 2 + width;
+    }
+    Ok(c)
+}
+
+// low, high of a big, where its range is not missing
+fn range(c: &Chart, k: usize) -> Option<(f64, f64)> {
+    let (f, l, _) = c.bigs[k];
+    if f > l || l >= c.segments.len() { return None; }
+    let s = c.strokes.get(c.segments[f].0)?.start_price;
+    let e = c.strokes.get(c.segments[l].1)?.end_price;
+    Some(if s <= e { (s, e) } else { (e, s) })
+}
+
+// first member and member count of each zone, by 01's rule
+fn members(c: &Chart) -> Vec<(usize, usize)> {
+    let mut out = vec![];
+    for &(first, last, up) in &c.superiors {
+        if last >= c.bigs.len() { continue; }
+        let mut run: Vec<(usize, f64, f64)> = vec![];
+        for k in first..=last {
+            if c.bigs[k].2 == up { continue; }
+            let Some((low, high)) = range(c, k) else { continue };
+            let joins = match run.len() {
+                0 => true,
+                1 => f64::max(run[0].1, low) < f64::min(run[0].2, high),
+                _ => low <= f64::min(run[0].2, run[1].2) && high >= f64::max(run[0].1, run[1].1),
+            };
+            if !joins { out.push((run[0].0, run.len())); run.clear(); }
+            run.push((k, low, high));
+        }
+        if !run.is_empty() { out.push((run[0].0, run.len())); }
+    }
+    out
+}
+
+fn hex(x: f64) -> String { format!("{:016X}", x.to_bits()) }
+
+fn side(buy: bool) -> &'static str { if buy { "buy" } else { "sell" } }
+
+// 10: two items or more, and one of them lacks a stroke or a segment
+fn whole_segments(c: &Chart) -> bool { c.segments.len() < 2 || c.segments.iter().all(|s| s.0 < c.strokes.len() && s.1 < c.strokes.len()) }
+fn whole_bigs(c: &Chart) -> bool {
+    let n = c.strokes.len();
+    c.bigs.len() < 2 || c.bigs.iter().all(|b| c.segments.get(b.0).map_or(false, |s| s.0 < n) && c.segments.get(b.1).map_or(false, |s| s.1 < n))
+}
+
+fn classes(c: &Chart, out: &mut String) {
+    for on in [false, true] {
+        let cases = chanlun::StrokeCases { case3: on, case4: false };
+        if whole_segments(c) {
+            let ks = z::classify_big_segments(&c.strokes, &c.segments, cases);
+            *out += &format!("CLASSES seg case3={} {}\n", on as u8, ks.len());
+            for k in ks { *out += &format!("{} {} {} {} {} {}\n", k.start_seg, k.end_seg, k.is_up as u8, if k.build == z::BigSegBuild::Case3 { 3 } else { 2 }, k.extended as u8, k.base_adjacent as u8); }
+        } else { *out += &format!("CLASSES seg case3={} refused 10\n", on as u8); }
+        if whole_bigs(c) {
+            let ks = z::classify_sup_segments(&c.strokes, &c.segments, &c.bigs, cases);
+            *out += &format!("CLASSES big case3={} {}\n", on as u8, ks.len());
+            for k in ks { *out += &format!("{} {} {} {} {} {}\n", k.start_big, k.end_big, k.is_up as u8, if k.build == z::SupBuild::Case3 { 3 } else { 2 }, k.extended as u8, k.base_adjacent as u8); }
+        } else { *out += &format!("CLASSES big case3={} refused 10\n", on as u8); }
+    }
+}
+
+fn firsts(c: &Chart, out: &mut String) {
+    for (name, buy) in [("FIRSTBUY", true), ("FIRSTSELL", false)] {
+        for on in [false, true] {
+            let cases = chanlun::StrokeCases { case3: on, case4: false };
+            if !whole_bigs(c) { *out += &format!("{name} case3={} refused 10\n", on as u8); continue; }
+            let ms = if buy { z::detect_bigseg_first_buy_markers(&c.strokes, &c.segments, &c.bigs, cases) } else { z::detect_bigseg_first_sell_markers(&c.strokes, &c.segments, &c.bigs, cases) };
+            *out += &format!("{name} case3={} {}\n", on as u8, ms.len());
+            for m in ms { *out += &format!("{} {}\n", m.bar_index, hex(m.price)); }
+        }
+    }
+}
+
+fn report(bytes: &[u8], sections: &[String], out: &mut String) {
+    let c = match read(bytes, 2048) { Ok(c) => c, Err((n, p)) => { *out += &format!("refused {n} at {p}\n"); return; } };
+    let zones = z::detect_bigseg_zhongshus_by_overlap(&c.superiors, &c.bigs, &c.segments, &c.strokes);
+    for s in sections {
+        match s.as_str() {
+            "zones" if zones.len() > 256 => *out += "ZONES refused 11\n",
+            "zones" => {
+                *out += &format!("ZONES {}\n", zones.len());
+                for (z, m) in zones.iter().zip(members(&c)) {
+                    *out += &format!("{} {} {} {} {} {} {} {} {}\n", z.sup_idx, z.start_bar, z.end_bar, hex(z.zd), hex(z.zg), hex(z.dd), hex(z.gg), m.0, m.1);
+                }
+            }
+            "labels" if zones.len() > 256 => *out += "LABELS refused 11\n",
+            "labels" => {
+                let l = z::detect_bigseg_trend_zhongshus(&zones, &c.bigs, &c.segments, &c.strokes);
+                *out += &format!("LABELS {}\n", l.len());
+                for l in l { *out += &format!("{}\n", l.label); }
+            }
+            "third" | "threen" if zones.len() > 256 => *out += &format!("{} refused 11\n", s.to_uppercase()),
+            "third" => {
+                let ms = z::bigseg_third_marks_all_zhongshu(&c.superiors, &c.bigs, &c.segments, &c.strokes, &c.highs, &c.lows);
+                *out += &format!("THIRD {}\n", ms.len());
+                for m in ms { *out += &format!("{} {} {}\n", side(m.is_buy), m.bar_index, hex(m.price)); }
+            }
+            "threen" if c.strokes.iter().any(|s| s.end_bar >= c.highs.len()) => *out += "THREEN refused 9\n",
+            "threen" => {
+                let ms = z::bigseg_3n_marks_all_zhongshu(&c.superiors, &c.bigs, &c.segments, &c.strokes, &c.highs, &c.lows);
+                *out += &format!("THREEN {}\n", ms.len());
+                for m in ms { *out += &format!("{} {} {} {}\n", side(m.is_buy), m.order, m.bar_index, hex(m.price)); }
+            }
+            "classes" => classes(&c, out),
+            "firsts" => firsts(&c, out),
+            _ => panic!("unknown section {s}"),
+        }
+    }
+}
+
+fn main() {
+    let args: Vec<String> = std::env::args().skip(1).collect();
+    let mut input = vec![];
+    std::io::stdin().read_to_end(&mut input).unwrap();
+    let mut out = String::new();
+    if args[0] == "one" { report(&input, &args[1..], &mut out); }
+    else {
+        let (mut at, mut i) = (0, 0);
+        while at < input.len() {
+            let n = u32::from_le_bytes(input[at..at + 4].try_into().unwrap()) as usize;
+            out += &format!("CHART {i}\n");
+            report(&input[at + 4..at + 4 + n], &args[1..], &mut out);
+            at += 4 + n;
+            i += 1;
+        }
+    }
+    std::io::stdout().write_all(out.as_bytes()).unwrap();
+}
