@@ -1,5 +1,5 @@
-// Stored charts for test programs: a stream of chart files, each behind its length, and the text of numbers. Nothing is said of values
-// here but that no read and no sum goes wrong: the programs' stored outputs judge them.
+// Stored charts for test programs, loaded from well-formed chart files. Nothing is said of values here but that no read and no sum goes
+// wrong: the programs' stored outputs judge them.
 use chart::Chart;
 use chart::Stroke;
 use chart::Triple;
@@ -193,62 +193,4 @@ pub fn load(s: &[u8]) -> Chart
         at += size_of(b);
     }
     c
-}
-
-// ---- text
-
-// The four bits of n from bit `shift` on, as an upper-case hexadecimal digit.
-fn digit(n: u64) -> u8 {
-    let d = n % 16;
-    if d < 10 { 48 + d as u8 } else { 55 + d as u8 }
-}
-
-// A price's bits as 16 digits; a NaN's as those of 0.
-fn hex_of(x: f64) -> [u8; 16] {
-    if x != x {
-        return [48; 16];
-    }
-    let n = f64::to_bits(x);
-    [
-        digit(n >> 60),
-        digit(n >> 56),
-        digit(n >> 52),
-        digit(n >> 48),
-        digit(n >> 44),
-        digit(n >> 40),
-        digit(n >> 36),
-        digit(n >> 32),
-        digit(n >> 28),
-        digit(n >> 24),
-        digit(n >> 20),
-        digit(n >> 16),
-        digit(n >> 12),
-        digit(n >> 8),
-        digit(n >> 4),
-        digit(n),
-    ]
-}
-
-// A price, or a number, with a space behind it.
-pub fn print_price(x: f64) {
-    io::write_all(1, &hex_of(x));
-    io::write_all(1, b" ");
-}
-
-pub fn print_number(n: u16) {
-    io::print_decimal(1, n as u64);
-    io::write_all(1, b" ");
-}
-
-// A section's head: its name and how many rows follow, or the number with which it is refused.
-pub fn print_head(name: &[u8], number: u8, count: u16) {
-    io::write_all(1, name);
-    if number == 0 {
-        io::write_all(1, b" ");
-        io::print_decimal(1, count as u64);
-    } else {
-        io::write_all(1, b" refused ");
-        io::print_decimal(1, number as u64);
-    }
-    io::write_all(1, b"\n");
 }

@@ -47,17 +47,20 @@ write-all-requires-2 c κs = search needs
 add-to : tie.Need-add-to Inv-loop μ-loop
 add-to c = search needs
 
-sub-print-chart : tie.Need-sub-print-chart Inv-loop μ-loop
-sub-print-chart c = search needs
+sub-load : tie.Need-sub-load Inv-loop μ-loop
+sub-load c = search needs
 
-part-print-chart-start : tie.Need-part-print-chart-start Inv-loop μ-loop
-part-print-chart-start c = search needs
+part-load-start : tie.Need-part-load-start Inv-loop μ-loop
+part-load-start c = search needs
 
-part-print-chart-end : tie.Need-part-print-chart-end Inv-loop μ-loop
-part-print-chart-end c = search needs
+part-load-end : tie.Need-part-load-end Inv-loop μ-loop
+part-load-end c = search needs
 
-print-chart-requires : tie.Need-print-chart-requires Inv-loop μ-loop
-print-chart-requires c κs = search needs
+load-requires : tie.Need-load-requires Inv-loop μ-loop
+load-requires c κs = search needs
+
+print-sections-requires : tie.Need-print-sections-requires Inv-loop μ-loop
+print-sections-requires c κs = search needs
 
 add-i : tie.Need-add-i Inv-loop μ-loop
 add-i c = search needs
@@ -89,10 +92,11 @@ print-charts-spec =
     slice-aggregate-write-all-2
     write-all-requires-2
     add-to
-    sub-print-chart
-    part-print-chart-start
-    part-print-chart-end
-    print-chart-requires
+    sub-load
+    part-load-start
+    part-load-end
+    load-requires
+    print-sections-requires
     add-i
     loop-less
     loop-again

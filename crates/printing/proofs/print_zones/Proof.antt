@@ -1,8 +1,8 @@
--- `zone_vectors::print_labels` meets its contract. Assumes nothing.
+-- `printing::print_zones` meets its contract. Assumes nothing.
 use Prim.Native.Nat.{_-_, _≤_}
 use borrow.Author.Needs.{needs}
-use Rattle.zone_vectors.proofs.print_labels.Statement.{statement}
-use Rattle.zone_vectors.proofs.print_labels.Tie as tie
+use Rattle.printing.proofs.print_zones.Statement.{statement}
+use Rattle.printing.proofs.print_zones.Tie as tie
 
 abbrev Inv-loop : tie.InvT-loop
 Inv-loop count rows i₀ i = i ≤ count
@@ -19,14 +19,14 @@ returns c = search needs
 cast-k : tie.Need-cast-k Inv-loop μ-loop
 cast-k c = search needs
 
-mul-print-label : tie.Need-mul-print-label Inv-loop μ-loop
-mul-print-label c = search needs
+mul-print-zone : tie.Need-mul-print-zone Inv-loop μ-loop
+mul-print-zone c = search needs
 
-array-copy-out-print-label : tie.Need-array-copy-out-print-label Inv-loop μ-loop
-array-copy-out-print-label c = search needs
+array-copy-out-print-zone : tie.Need-array-copy-out-print-zone Inv-loop μ-loop
+array-copy-out-print-zone c = search needs
 
-print-label-requires : tie.Need-print-label-requires Inv-loop μ-loop
-print-label-requires c κs = search needs
+print-zone-requires : tie.Need-print-zone-requires Inv-loop μ-loop
+print-zone-requires c κs = search needs
 
 add-i : tie.Need-add-i Inv-loop μ-loop
 add-i c = search needs
@@ -40,8 +40,8 @@ loop-again c = search needs
 returns-2 : tie.Need-returns-2 Inv-loop μ-loop
 returns-2 c = search needs
 
-pub print-labels-spec : {M : Type 1} → statement M
-print-labels-spec =
+pub print-zones-spec : {M : Type 1} → statement M
+print-zones-spec =
     tie.close
     (tie.spec
     Inv-loop
@@ -49,9 +49,9 @@ print-labels-spec =
     loop-holds
     returns
     cast-k
-    mul-print-label
-    array-copy-out-print-label
-    print-label-requires
+    mul-print-zone
+    array-copy-out-print-zone
+    print-zone-requires
     add-i
     loop-less
     loop-again

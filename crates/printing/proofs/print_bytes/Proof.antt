@@ -1,10 +1,10 @@
--- `zone_vectors::print_bytes` meets its contract. Assumes nothing.
+-- `printing::print_bytes` meets its contract. Assumes nothing.
 use mathlib.Core.Path.{sym}
 use lib.Seq.{length-take-le}
 use native.Mathlib.Omega.{arith}
 use borrow.Author.Needs.{needs}
-use Rattle.zone_vectors.proofs.print_bytes.Statement.{statement}
-use Rattle.zone_vectors.proofs.print_bytes.Tie as tie
+use Rattle.printing.proofs.print_bytes.Statement.{statement}
+use Rattle.printing.proofs.print_bytes.Tie as tie
 
 array-share-prefix-bytes : tie.Need-array-share-prefix-bytes
 array-share-prefix-bytes c = search needs

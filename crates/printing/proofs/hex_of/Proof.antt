@@ -1,11 +1,11 @@
--- `vectors::hex_of` meets its contract. Assumes nothing.
+-- `printing::hex_of` meets its contract. Assumes nothing.
 use mathlib.Core.Path.{_≡_, subst}
 use mathlib.Core.Bool.{false, not}
 use lib.Dec.{T}
 use lib.Ieee.{Float, nan, inf, fin, ne, isNan}
 use borrow.Author.Needs.{needs}
-use Rattle.vectors.proofs.hex_of.Statement.{statement}
-use Rattle.vectors.proofs.hex_of.Tie as tie
+use Rattle.printing.proofs.hex_of.Statement.{statement}
+use Rattle.printing.proofs.hex_of.Tie as tie
 
 returns : tie.Need-returns
 returns c = search needs

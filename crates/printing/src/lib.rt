@@ -1,0 +1,110 @@
+// The rows of `report`, written to standard output. Of printing only safety is proved.
+use chart::Label;
+use chart::Zone;
+
+// The lowest four bits of n, as an upper-case hexadecimal digit.
+fn digit(n: u64) -> u8 {
+    let d = n % 16;
+    if d < 10 { 48 + d as u8 } else { 55 + d as u8 }
+}
+
+// A price's bits as 16 digits; a NaN's as those of 0.
+fn hex_of(x: f64) -> [u8; 16] {
+    if x != x {
+        return [48; 16];
+    }
+    let n = f64::to_bits(x);
+    [
+        digit(n >> 60),
+        digit(n >> 56),
+        digit(n >> 52),
+        digit(n >> 48),
+        digit(n >> 44),
+        digit(n >> 40),
+        digit(n >> 36),
+        digit(n >> 32),
+        digit(n >> 28),
+        digit(n >> 24),
+        digit(n >> 20),
+        digit(n >> 16),
+        digit(n >> 12),
+        digit(n >> 8),
+        digit(n >> 4),
+        digit(n),
+    ]
+}
+
+// A price, or a number, with a space behind it.
+fn print_price(x: f64) {
+    io::write_all(1, &hex_of(x));
+    io::write_all(1, b" ");
+}
+
+fn print_number(n: u16) {
+    io::print_decimal(1, n as u64);
+    io::write_all(1, b" ");
+}
+
+// A section's head: its name and how many rows follow, or the number with which it is refused.
+pub fn print_head(name: &[u8], number: u8, count: u16) {
+    io::write_all(1, name);
+    if number == 0 {
+        io::write_all(1, b" ");
+        io::print_decimal(1, count as u64);
+    } else {
+        io::write_all(1, b" refused ");
+        io::print_decimal(1, number as u64);
+    }
+    io::write_all(1, b"\n");
+}
+
+// A row of the section ZONES.
+fn print_zone(z: Zone) {
+    print_number(z.sup_idx);
+    print_number(z.start_bar);
+    print_number(z.end_bar);
+    print_price(z.zd);
+    print_price(z.zg);
+    print_price(z.dd);
+    print_price(z.gg);
+    print_number(z.first_member);
+    io::print_decimal(1, z.members as u64);
+    io::write_all(1, b"\n");
+}
+
+pub fn print_zones(rows: [Zone; 256], count: u16) {
+    let mut i = 0u16;
+    while i < count {
+        if 256 <= i {
+            return;
+        }
+        let k = i as usize;
+        print_zone(rows[k]);
+        i += 1;
+    }
+}
+
+// A row of the section LABELS.
+fn print_bytes(bytes: [u8; 16], n: usize) {
+    if n <= 16 {
+        io::write_all(1, &bytes[..n]);
+    }
+    io::write_all(1, b"\n");
+}
+
+fn print_label(l: Label) {
+    let bytes = l.bytes;
+    print_bytes(bytes, l.len as usize);
+}
+
+pub fn print_labels(rows: [Label; 256], count: u16) {
+    let mut i = 0u16;
+    while i < count {
+        if 256 <= i {
+            return;
+        }
+        let k = i as usize;
+        print_label(rows[k]);
+        i += 1;
+    }
+}
