@@ -6,12 +6,21 @@ class Chart:
     def __init__(self, strokes=(), segments=(), bigs=(), superiors=(), bars=()):
         self.strokes, self.segments, self.bigs, self.superiors, self.bars = map(list, (strokes, segments, bigs, superiors, bars))
 
+    def kinds(self):
+        """the records of each kind: bars, strokes, segments, bigs, superiors"""
+        triples = ((b"SG", self.segments), (b"BG", self.bigs), (b"SU", self.superiors))
+        return [[b"BR" + struct.pack("<dd", h, l) for h, l in self.bars], [b"ST" + struct.pack("<BHHdd", *s) for s in self.strokes]] + [[mark + struct.pack("<BHH", *t) for t in level] for mark, level in triples]
+
     def pack(self):
-        out = [b"BR" + struct.pack("<dd", h, l) for h, l in self.bars]
-        out += [b"ST" + struct.pack("<BHHdd", *s) for s in self.strokes]
-        for mark, level in ((b"SG", self.segments), (b"BG", self.bigs), (b"SU", self.superiors)):
-            out += [mark + struct.pack("<BHH", *t) for t in level]
-        return b"".join(out)
+        return b"".join(b"".join(k) for k in self.kinds())
+
+    def mingled(self, r):
+        """the same records with the kinds mingled, each kind in its order"""
+        kinds = [k for k in self.kinds() if k]
+        order = [i for i, k in enumerate(kinds) for _ in k]
+        r.shuffle(order)
+        rows = [iter(k) for k in kinds]
+        return b"".join(next(rows[i]) for i in order)
 
 def stream(charts):
     """many chart files: each its length (u32) and its bytes"""
@@ -158,3 +167,35 @@ def special():
     overlapping = simple(K_TURNS, [(1, 0, 7), (1, 2, 6), (0, 1, 7), (1, 0, 7)])
     odd = simple(K_TURNS, [(1, 65535, 4), (1, 0, 65535), (1, 65535, 65535), (0, 5, 2), (1, 0, 8), (1, 1, 1)])
     return [Chart(), chart_k(), touching(), three_members(), of_one(1), of_one(255), of_one(256), too_many(), far_too_many(), overlapping, missing, odd, named(256)] + [full(s) for s in SHAPES.values()]
+
+# ---- files
+
+ODD_BITS = [0x7FF0000000000000, 0xFFF0000000000000, 0x8000000000000000, 0x7FF8000000000000, 0xFFF8000000000001, 0x7FF0000000000001]
+
+def damaged(r, data):
+    data = bytearray(data)
+    """cut, changed, shortened, lengthened, with an odd price at the end, or with a record too many"""
+    how = r.randrange(6)
+    if how == 0 or len(data) < 9:
+        return bytes(data[:r.randrange(len(data) + 1)])
+    at = r.randrange(len(data))
+    if how == 1:
+        data[at] = r.randrange(256)
+    elif how == 2:
+        del data[at]
+    elif how == 3:
+        data[at:at] = bytes([r.choice(b"STGBURxyz\0\xff")])
+    elif how == 4:
+        data[-8:] = r.choice(ODD_BITS).to_bytes(8, "little")
+    else:
+        mark, size, most = r.choice([(b"ST", 23, 513), (b"SG", 7, 257), (b"BG", 7, 257), (b"SU", 7, 257), (b"BR", 18, 2049)])
+        data += (mark + bytes(size - 2)) * most
+    return bytes(data)
+
+def small_file():
+    """a record of each kind"""
+    return Chart([(1, 0, 1, 1.0, 2.0)], [(1, 0, 0)], [(0, 0, 0)], [(1, 0, 0)], [(2.0, 1.0)]).pack()
+
+def each_byte(data):
+    """every truncation and every change of one byte"""
+    return [data[:n] for n in range(len(data) + 1)] + [data[:i] + bytes([b]) + data[i + 1:] for i in range(len(data)) for b in range(256) if b != data[i]]

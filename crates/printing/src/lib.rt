@@ -108,3 +108,12 @@ pub fn print_labels(rows: [Label; 256], count: u16) {
         i += 1;
     }
 }
+
+// The line of a file that is refused.
+pub fn print_refused(number: u8, place: usize) {
+    io::write_all(1, b"refused ");
+    io::print_decimal(1, number as u64);
+    io::write_all(1, b" at ");
+    io::print_decimal(1, place as u64);
+    io::write_all(1, b"\n");
+}

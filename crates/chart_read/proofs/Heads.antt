@@ -1,0 +1,70 @@
+-- The record at the head of some bytes, by the tests on its mark, its length and its place. Assumes nothing.
+use Prim.Native.Nat.{ℕ, suc, _-_, _<_, _≤_}
+use native.Mathlib.Omega.{arith}
+use mathlib.Core.Path.{_≡_, refl, sym, ap, _∙_}
+use mathlib.Core.Bool.{Bool, true, false}
+use mathlib.Core.List.{List, [], _∷_}
+use mathlib.Core.Option.{none, some}
+use lib.ListN.{length, getD, take, drop, length-drop}
+use lib.Seq.{take-all}
+use lib.Dec.{ltb}
+use borrow.Author.Tests.{le-ltb, ltb-true, ltb-false}
+use Rattle.price.specs.Bytes.{ofBytes, readBits}
+use Rattle.rules.specs.Refusals.{refuse}
+use Rattle.rules.specs.Answer.{Answer, refused, given, answered}
+use Rattle.rules.specs.File.{Kind, width, kindOf, number, Record, readRecord}
+use Rattle.laws.proofs.FileSteps.{readBehind, record-at, behind-cut, behind-full}
+use Rattle.chart_read.specs.declared.Mark.{Mark}
+use Rattle.chart_read.specs.declared.MarkRead.{MarkRead}
+use Rattle.chart_read.specs.declared.MarkRead.the-variants as read
+use Rattle.chart_read.specs.Heads.{kindBy, markedBy, checked}
+
+-- the part of a slice from a place on
+pub part : (s : List ℕ) (i : ℕ) → take (length s - i) (drop i s) ≡ drop i s
+part s i = take-all (length s - i) (drop i s) (omega (arith, length-drop i s))
+
+pub part-bits : (s : List ℕ) (i : ℕ) → readBits (ofBytes (take 8 (take (length s - i) (drop i s)))) ≡ readBits (number i 8 s)
+unfolding number
+part-bits s i = rw (part s i)
+
+-- enough bytes behind the mark
+pub head-long : (s : List ℕ) (w k : ℕ) → w ≡ k → ltb (length s - 2) w ≡ false → k ≤ length (take (length s - 2) (drop 2 s))
+head-long s w k e l = rw (part s 2) (omega (arith, length-drop 2 s, ltb-false (length s - 2) w l))
+
+module _ (f : Kind → Bool) where
+  pub head-short : (s : List ℕ) → length s < 2 → refused 13 ≡ readRecord f s
+  unfolding readRecord
+  head-short [] h = refl
+  head-short (a ∷ []) h = refl
+  head-short (a ∷ b ∷ s) h = absurd (omega arith)
+
+  right : (s : List ℕ) (k : Kind) → width k ≤ length s → f k ≡ false → readBehind f s (some k) ≡ checked k s
+  unfolding readBehind refuse checked
+  right s k h e = rw (le-ltb (length s) (width k) h, e)
+
+  module _ (s : List ℕ) (h : 2 ≤ length s) (o : MarkRead) (called : markedBy o ≡ kindOf (getD s 0 0) (getD s 1 0)) where
+    behind : readRecord f s ≡ readBehind f (drop 2 s) (markedBy o)
+    behind = record-at f 0 s h ∙ ap (readBehind f (drop 2 s)) (sym called)
+
+    pub head-unknown : o ≡ read.NoMark → refused 12 ≡ readRecord f s
+    unfolding readBehind
+    head-unknown e = sym (behind ∙ rw e)
+
+    module _ (m : Mark) (e : o ≡ read.Mark m) where
+      known : readRecord f s ≡ readBehind f (drop 2 s) (some (kindBy m))
+      known = behind ∙ rw e
+
+      module _ (w : ℕ) (wide : w ≡ width (kindBy m)) where
+        pub head-cut : ltb (length s - 2) w ≡ true → refused 13 ≡ readRecord f s
+        head-cut l = sym (known ∙ behind-cut f (drop 2 s) (kindBy m) (omega (arith, length-drop 2 s, ltb-true (length s - 2) w l)))
+
+        long : ltb (length s - 2) w ≡ false → width (kindBy m) ≤ length (drop 2 s)
+        long l = rw (part s 2) at (head-long s w (width (kindBy m)) wide l)
+
+        pub head-full : ltb (length s - 2) w ≡ false → f (kindBy m) ≡ true → refused 3 ≡ readRecord f s
+        head-full l t = sym (known ∙ behind-full f (drop 2 s) (kindBy m) (long l) t)
+
+        pub head-fields :
+            (a : Answer Record) → ltb (length s - 2) w ≡ false → f (kindBy m) ≡ false
+            → a ≡ checked (kindBy m) (take (length s - 2) (drop 2 s)) → a ≡ readRecord f s
+        head-fields a l t c = c ∙ ap (checked (kindBy m)) (part s 2) ∙ sym (known ∙ right (drop 2 s) (kindBy m) (long l) t)

@@ -1,0 +1,5 @@
+pub mod Fields
+pub mod Heads
+pub mod Scans
+pub mod Fills
+pub mod Calls

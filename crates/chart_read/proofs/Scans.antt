@@ -1,0 +1,268 @@
+-- A scan of a file's records: what is reached at a place, and one record more. Assumes nothing.
+use Prim.Native.Nat.{ℕ, zero, suc, _+_, _-_, _<_, _≤_}
+use native.Mathlib.Omega.{arith}
+use mathlib.Core.Path.{_≡_, refl, sym, ap, _∙_, subst}
+use mathlib.Core.Bool.{Bool, true, false, cond, _||_}
+use mathlib.Core.List.{List, [], _∷_, _++_}
+use mathlib.Core.Option.{Option, none, some}
+use lib.ListN.{length, take, drop, set, length-set, length-drop}
+use lib.Seq.{length-take-le}
+use lib.Dec.{leb, ltb}
+use borrow.Author.Tests.{leb-false, le-ltb}
+use Rattle.chart.specs.declared.Chart.{Chart}
+use Rattle.chart.specs.declared.Triple.{Triple}
+use Rattle.rules.specs.Answer.{AnswerBy, Answer, NumberAt, refused, given, answered}
+use Rattle.rules.specs.Records.{levelsOf, Quotes}
+use Rattle.rules.specs.Refusals.{refuse, overfull}
+use Rattle.rules.specs.File.{
+  Kind,
+  ST,
+  SG,
+  BG,
+  SU,
+  BR,
+  width,
+  kindOf,
+  kind,
+  Record,
+  stroke,
+  segment,
+  big,
+  superior,
+  bar,
+  Content,
+  nothing,
+  append,
+  full,
+  recordIn,
+  fieldRefusal,
+  readRecord,
+  readFrom,
+  readFile,
+}
+use Rattle.laws.proofs.Tests.{or-i, length-snoc}
+use Rattle.laws.proofs.FileSteps.{refused-given, readBehind, read-two, Accepted, accepted, at-end, at-refused, at-given}
+use Rattle.laws.proofs.FileCode.{Room, stored, levels-stored}
+use Rattle.chart_read.specs.declared.Counts.{Counts}
+use Rattle.chart_read.specs.declared.Head.{Head}
+use Rattle.chart_read.specs.declared.Head.the-variants as head
+use Rattle.chart_read.specs.declared.Level.{Level}
+use Rattle.chart_read.specs.Heads.{tripleBy, answerOf, fullBy, Counted, countBars, counted}
+use Rattle.chart_read.proofs.Heads.{part}
+
+-- ---- a test for room that goes by the counts
+
+-- it decides the same
+pub same-full : (f g : Kind → Bool) (s : List ℕ) → ((k : Kind) → f k ≡ g k) → readRecord f s ≡ readRecord g s
+unfolding readRecord readBehind
+same-full f g [] h = refl
+same-full f g (a ∷ []) h = refl
+same-full f g (a ∷ b ∷ s) h = read-two f a b s ∙ go (kindOf a b) ∙ sym (read-two g a b s)
+  where
+    go : (o : Option Kind) → readBehind f s o ≡ readBehind g s o
+    go none = refl
+    go (some k) = rw (h k)
+
+answered-above : {A : Type 0} (m : ℕ) (x : A) (k : ℕ) → answered m x ≡ refused k → 0 < k
+unfolding answered
+answered-above zero x k e = absurd (refused-given (sym e))
+answered-above (suc m) x k e = let z : suc m ≡ k = cc in omega arith
+
+behind-above : (f : Kind → Bool) (s : List ℕ) (o : Option Kind) (k : ℕ) → readBehind f s o ≡ refused k → 0 < k
+unfolding readBehind
+behind-above f s none k e = let z : 12 ≡ k = cc in omega arith
+behind-above f s (some j) k e = answered-above _ (recordIn j s) k e
+
+-- no record is refused with 0
+pub refused-above : (f : Kind → Bool) (s : List ℕ) (k : ℕ) → readRecord f s ≡ refused k → 0 < k
+unfolding readRecord
+refused-above f [] k e = let z : 13 ≡ k = cc in omega arith
+refused-above f (a ∷ []) k e = let z : 13 ≡ k = cc in omega arith
+refused-above f (a ∷ b ∷ s) k e = behind-above f s (kindOf a b) k (sym (read-two f a b s) ∙ e)
+
+-- ---- a chart whose counts are within its arrays
+
+pub record Sized (c : Chart) : Type 0 where
+  pub strokes : length (c .strokes) ≡ 512
+  pub segments : length (c .segments) ≡ 256
+  pub bigs : length (c .bigs) ≡ 256
+  pub superiors : length (c .superiors) ≡ 256
+  pub stroke-few : c .«stroke_count» ≤ 512
+  pub segment-few : c .«segment_count» ≤ 256
+  pub big-few : c .«big_count» ≤ 256
+  pub superior-few : c .«superior_count» ≤ 256
+
+pub sized-fits : (c : Chart) → Sized c → overfull c ≡ false
+unfolding overfull
+sized-fits c s =
+    rw (
+      le-ltb 512 (c .«stroke_count») (s .stroke-few),
+      le-ltb 256 (c .«segment_count») (s .segment-few),
+      le-ltb 256 (c .«big_count») (s .big-few),
+      le-ltb 256 (c .«superior_count») (s .superior-few),
+    )
+
+module _ (c : Chart) (bars n : ℕ) where
+  abbrev pub countsOf : Counts
+  countsOf =
+      record {
+        strokes = c .«stroke_count»;
+        segments = c .«segment_count»;
+        bigs = c .«big_count»;
+        superiors = c .«superior_count»;
+        bars = bars;
+        places = n;
+      }
+
+  -- what that test says where a record is read: its place is in its array
+  abbrev pub Free : Record → Type 0
+  Free (stroke s) = c .«stroke_count» < 512
+  Free (segment t) = c .«segment_count» < 256
+  Free (big t) = c .«big_count» < 256
+  Free (superior t) = c .«superior_count» < 256
+  Free (bar h l) = bars < n
+
+  free : (r : Record) → fullBy countsOf (kind r) ≡ false → Free r
+  unfolding fullBy kind
+  free (stroke s) e = leb-false 512 (c .«stroke_count») e
+  free (segment t) e = leb-false 256 (c .«segment_count») e
+  free (big t) e = leb-false 256 (c .«big_count») e
+  free (superior t) e = leb-false 256 (c .«superior_count») e
+  free (bar h l) e = leb-false n bars e
+
+  room : (r : Record) → Sized c → Free r → Room c r
+  room (stroke s) z f = omega arith
+  room (segment t) z f = omega arith
+  room (big t) z f = omega arith
+  room (superior t) z f = omega arith
+  room (bar h l) z f = tt
+
+  sized-stored : (r : Record) → Sized c → Free r → Sized (stored c r)
+  sized-stored (stroke s) z f =
+      record {
+        strokes = simp length-set (z .strokes);
+        segments = z .segments;
+        bigs = z .bigs;
+        superiors = z .superiors;
+        stroke-few = omega arith;
+        segment-few = z .segment-few;
+        big-few = z .big-few;
+        superior-few = z .superior-few;
+      }
+  sized-stored (segment t) z f =
+      record {
+        strokes = z .strokes;
+        segments = simp length-set (z .segments);
+        bigs = z .bigs;
+        superiors = z .superiors;
+        stroke-few = z .stroke-few;
+        segment-few = omega arith;
+        big-few = z .big-few;
+        superior-few = z .superior-few;
+      }
+  sized-stored (big t) z f =
+      record {
+        strokes = z .strokes;
+        segments = z .segments;
+        bigs = simp length-set (z .bigs);
+        superiors = z .superiors;
+        stroke-few = z .stroke-few;
+        segment-few = z .segment-few;
+        big-few = omega arith;
+        superior-few = z .superior-few;
+      }
+  sized-stored (superior t) z f =
+      record {
+        strokes = z .strokes;
+        segments = z .segments;
+        bigs = z .bigs;
+        superiors = simp length-set (z .superiors);
+        stroke-few = z .stroke-few;
+        segment-few = z .segment-few;
+        big-few = z .big-few;
+        superior-few = omega arith;
+      }
+  sized-stored (bar h l) z f = z
+
+  -- the test is the definition's
+  agree : (q : Quotes) → Sized c → length (q .highs) ≡ bars → (k : Kind) → fullBy countsOf k ≡ full n (record { levels = levelsOf c; bars = q }) k
+  unfolding fullBy full levelsOf
+  agree q z e ST = rw (length-take-le (c .«stroke_count») (c .strokes) (omega arith))
+  agree q z e SG = rw (length-take-le (c .«segment_count») (c .segments) (omega arith))
+  agree q z e BG = rw (length-take-le (c .«big_count») (c .bigs) (omega arith))
+  agree q z e SU = rw (length-take-le (c .«superior_count») (c .superiors) (omega arith))
+  agree q z e BR = rw e
+
+  -- one bar more, where the record is one
+  abbrev pub barsAfter : Record → ℕ
+  barsAfter (stroke s) = bars
+  barsAfter (segment t) = bars
+  barsAfter (big t) = bars
+  barsAfter (superior t) = bars
+  barsAfter (bar h l) = bars + 1
+
+-- ---- what is reached at a place: some bars, whose number is known, and what is left to read
+
+pub record Reached (n : ℕ) (bytes : List ℕ) (c : Chart) (bars at : ℕ) : Type 0 where
+  pub quotes : Quotes
+  pub many : length (quotes .highs) ≡ bars
+  pub sized : Sized c
+  pub left : readFrom n at (record { levels = levelsOf c; bars = quotes }) 0 (drop at bytes) ≡ readFile n bytes
+
+bars-many : (c : Chart) (bars n : ℕ) (d : Content) (r : Record) → length (d .bars .highs) ≡ bars → length (append d r .bars .highs) ≡ barsAfter c bars n r
+unfolding append
+bars-many c bars n d (stroke s) e = e
+bars-many c bars n d (segment t) e = e
+bars-many c bars n d (big t) e = e
+bars-many c bars n d (superior t) e = e
+bars-many c bars n d (bar h l) e = omega (arith, length-snoc (d .bars .highs) h)
+
+pub begins : (n : ℕ) (bytes : List ℕ) (c : Chart) → Sized c → c .«stroke_count» ≡ 0 → c .«segment_count» ≡ 0 → c .«big_count» ≡ 0 → c .«superior_count» ≡ 0 → Reached n bytes c 0 0
+unfolding levelsOf readFile nothing
+begins n bytes c z s g b u = record { quotes = record { highs = []; lows = [] }; many = refl; sized = z; left = rw (s, g, b, u) }
+
+module _ (n : ℕ) (bytes : List ℕ) (c : Chart) (bars at : ℕ) (i : Reached n bytes c bars at) (h : at < length bytes) (o : Head)
+    (called : answerOf o ≡ readRecord (fullBy (countsOf c bars n)) (take (length bytes - at) (drop at bytes))) where
+  by-counts : (a : Answer Record) → answerOf o ≡ a → readRecord (fullBy (countsOf c bars n)) (drop at bytes) ≡ a
+  by-counts a e = ap (readRecord (fullBy (countsOf c bars n))) (sym (part bytes at)) ∙ sym called ∙ e
+
+  by-content : (a : Answer Record) → answerOf o ≡ a → readRecord (full n (record { levels = levelsOf c; bars = i .quotes })) (drop at bytes) ≡ a
+  by-content a e = sym (same-full _ _ (drop at bytes) (agree c bars n (i .quotes) (i .sized) (i .many))) ∙ by-counts a e
+
+  -- a refusal
+  pub stops : (k : ℕ) → answerOf o ≡ refused k → (d : Chart) (m : ℕ) → counted k at d m ≡ countBars (readFile n bytes)
+  unfolding countBars counted
+  stops k e d m =
+      let left = sym (at-refused n at _ bytes k h (by-content (refused k) e)) ∙ i .left in
+      number k (refused-above _ (drop at bytes) k (by-counts (refused k) e)) ∙ ap countBars left
+    where
+      number : (k : ℕ) → 0 < k → counted k at d m ≡ refused (record { number = k; place = at })
+      number zero h = absurd (omega arith)
+      number (suc k) h = refl
+
+  -- a record: it has a place
+  pub has-place : (r : Record) → answerOf o ≡ given r → Free c bars n r
+  has-place r e = free c bars n r (accepted _ (drop at bytes) r (by-counts (given r) e) .place)
+
+  pub goes-on :
+      (r : Record) → answerOf o ≡ given r → (to : ℕ) → to ≡ at + suc (suc (width (kind r)))
+      → Reached n bytes (stored c r) (barsAfter c bars n r) to
+  goes-on r e to t =
+      let d : Content = record { levels = levelsOf c; bars = i .quotes } in
+      let f = has-place r e in
+      record {
+        quotes = append d r .bars;
+        many = bars-many c bars n d r (i .many);
+        sized = sized-stored c bars n r (i .sized) f;
+        left = rw (t, levels-stored c (i .quotes) r (room c bars n r (i .sized) f)) (sym (at-given n at d bytes r (by-content (given r) e)) ∙ i .left);
+      }
+
+-- a triple of a level that is known
+pub triple-is : (o : Head) (l k : Level) (t : Triple) → o ≡ head.Triple l t → l ≡ k → answerOf o ≡ given (tripleBy k t)
+triple-is o l k t e f = rw (e, f)
+
+-- the end of the file
+pub ends : (n : ℕ) (bytes : List ℕ) (c : Chart) (bars at : ℕ) → Reached n bytes c bars at → length bytes ≤ at → counted 0 0 c bars ≡ countBars (readFile n bytes)
+unfolding counted countBars
+ends n bytes c bars at i h =
+    rw (sized-fits c (i .sized), ← i .many) (ap countBars (sym (at-end n at (record { levels = levelsOf c; bars = i .quotes }) bytes h) ∙ i .left))

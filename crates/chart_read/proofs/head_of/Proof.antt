@@ -1,0 +1,110 @@
+use mathlib.Core.Path.{sym, _∙_}
+use Rattle.chart_read.proofs.Heads.{head-short, head-unknown, head-cut, head-long, head-full, head-fields}
+use borrow.Author.Needs.{needs}
+use Rattle.chart_read.proofs.head_of.Statement.{statement}
+use Rattle.chart_read.proofs.head_of.Tie as tie
+use Rattle.chart_read.proofs.head_of.Reads as reads
+use Rattle.chart_read.proofs.head_of.Lts as lts
+use Rattle.chart_read.proofs.fields_in.Reads as fields-in-reads
+use Rattle.chart_read.proofs.is_full.Reads as is-full-reads
+use Rattle.chart_read.proofs.mark_of.Reads as mark-of-reads
+use Rattle.chart_read.proofs.width_of.Reads as width-of-reads
+
+returns : tie.Need-returns
+returns c = head-short _ _ (c .if1 .taken)
+
+shared-slice-read-mark-of : tie.Need-shared-slice-read-mark-of
+shared-slice-read-mark-of c = search needs
+
+shared-slice-read-mark-of-2 : tie.Need-shared-slice-read-mark-of-2
+shared-slice-read-mark-of-2 c = search needs
+
+mark-of-requires : tie.Need-mark-of-requires
+mark-of-requires c κs = search needs
+
+enum-known-m : tie.Need-enum-known-m
+enum-known-m c = search needs
+
+enum-told : tie.Need-enum-told
+enum-told c = search needs
+
+returns-2 : tie.Need-returns-2
+returns-2 c =
+    let called = c .before .before in
+    let test = called .before .before .before in
+    head-unknown _ _ (test .if1 .left) _ (called .mark-of .ensures) (c .enum-told .given .1)
+
+sub-cut : tie.Need-sub-cut
+sub-cut c = search needs
+
+width-of-requires : tie.Need-width-of-requires
+width-of-requires c κs = search needs
+
+is-full-requires : tie.Need-is-full-requires
+is-full-requires c κs = search needs
+
+returns-3 : tie.Need-returns-3
+returns-3 c =
+    let wide = c .before .before in
+    let mark = wide .before .before in
+    let called = mark .before .before in
+    let test = called .before .before .before in
+    head-cut _ _ (test .if1 .left) _ (called .mark-of .ensures) _ (mark .m .given .1) _ (wide .width-of .ensures) (c .if2 .taken)
+
+returns-4 : tie.Need-returns-4
+returns-4 c =
+    let full = c .before .before in
+    let wide = full .before in
+    let mark = wide .before .before in
+    let called = mark .before .before in
+    let test = called .before .before .before in
+    head-full _ _ (test .if1 .left) _ (called .mark-of .ensures) _ (mark .m .given .1) _ (wide .width-of .ensures) (c .before .if2 .left) (sym (full .is-full .ensures) ∙ c .if3 .taken)
+
+sub-fields-in : tie.Need-sub-fields-in
+sub-fields-in c = search needs
+
+part-fields-in-start : tie.Need-part-fields-in-start
+part-fields-in-start c = search needs
+
+part-fields-in-end : tie.Need-part-fields-in-end
+part-fields-in-end c = search needs
+
+fields-in-requires : tie.Need-fields-in-requires
+fields-in-requires c κs =
+    let long = c .before .before in
+    let wide = long .before .before in
+    let known = wide .before .before .before .before .before .before .before .before in
+    head-long (known .before .args .s .now) _ _ (wide .width-of .ensures) (long .if2 .left)
+
+returns-5 : tie.Need-returns-5
+returns-5 c =
+    let room = c .before .before in
+    let full = room .before .before in
+    let wide = full .before in
+    let mark = wide .before .before in
+    let called = mark .before .before in
+    let test = called .before .before .before in
+    head-fields _ _ (test .if1 .left) _ (called .mark-of .ensures) _ (mark .m .given .1) _ (wide .width-of .ensures) _ (room .before .if2 .left) (sym (full .is-full .ensures) ∙ room .if3 .left)
+    (c .fields-in .ensures)
+
+pub head-of-spec : {M : Type 1} → statement M
+head-of-spec =
+    tie.close
+    (tie.spec
+    returns
+    shared-slice-read-mark-of
+    shared-slice-read-mark-of-2
+    mark-of-requires
+    enum-known-m
+    enum-told
+    returns-2
+    sub-cut
+    width-of-requires
+    is-full-requires
+    returns-3
+    returns-4
+    sub-fields-in
+    part-fields-in-start
+    part-fields-in-end
+    fields-in-requires
+    returns-5)

@@ -1,0 +1,35 @@
+use Rattle.chart_read.specs.Heads.{fullBy}
+use borrow.Author.Needs.{needs}
+use Rattle.chart_read.proofs.is_full.Statement.{statement}
+use Rattle.chart_read.proofs.is_full.Tie as tie
+use Rattle.chart_read.proofs.is_full.Reads as reads
+use Rattle.chart_read.proofs.is_full.Lts as lts
+use Rattle.chart_read.proofs.level_full.Reads as level-full-reads
+
+enum-told : tie.Need-enum-told
+enum-told c = search needs
+
+enum-known-m : tie.Need-enum-known-m
+enum-known-m c = search needs
+
+level-full-requires : tie.Need-level-full-requires
+level-full-requires c κs = search needs
+
+enum-told-2 : tie.Need-enum-told-2
+enum-told-2 c = search needs
+
+returns : tie.Need-returns
+unfolding fullBy
+returns c = rw (c .before .enum-told .given .1)
+
+returns-2 : tie.Need-returns-2
+returns-2 c = rw (c .before .before .m .given .1) (c .level-full .ensures)
+
+returns-3 : tie.Need-returns-3
+unfolding fullBy
+returns-3 c = rw (c .before .enum-told2 .given .1)
+
+pub is-full-spec : {M : Type 1} → statement M
+is-full-spec =
+    tie.close
+    (tie.spec enum-told enum-known-m level-full-requires enum-told-2 returns returns-2 returns-3)

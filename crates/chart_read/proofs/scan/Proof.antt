@@ -1,0 +1,270 @@
+use Rattle.chart_read.specs.declared.Level.the-variants as level
+use Rattle.chart_read.proofs.Scans.{barsAfter}
+use Rattle.rules.specs.File.{Record}
+use Rattle.rules.specs.Answer.{given}
+use Rattle.laws.proofs.FileCode.{stored}
+use Rattle.laws.proofs.Arrays.{length-via}
+use Prim.Native.Nat.{ℕ, suc, _+_}
+use Rattle.chart_read.proofs.Scans.{Sized, Free, Reached, begins, stops, has-place, goes-on, triple-is, ends}
+use Rattle.chart_read.specs.Heads.{answerOf}
+use Rattle.rules.specs.File.{kind, width, stroke, segment, big, superior, bar}
+use Prim.Native.Nat.{_-_, _≤_, _<_}
+use lib.ListN.{length}
+use mathlib.Core.Path.{_≡_, refl, sym, ap, _∙_}
+use native.Mathlib.Omega.{arith}
+use borrow.Author.Needs.{needs}
+use Rattle.chart_read.proofs.scan.Statement.{statement}
+use Rattle.chart_read.proofs.scan.Tie as tie
+use Rattle.chart_read.proofs.scan.Reads as reads
+use Rattle.chart_read.proofs.scan.Lts as lts
+use Rattle.chart_read.proofs.head_of.Reads as head-of-reads
+use Rattle.chart_read.proofs.no_chart.Reads as no-chart-reads
+
+abbrev Inv-loop : tie.InvT-loop
+Inv-loop bytes places chart₀ bars₀ at₀ chart bars at = Reached places bytes chart bars at
+
+abbrev μ-loop : tie.MeasureT-loop
+μ-loop bytes places chart₀ bars₀ at₀ chart bars at = length bytes - at
+
+sized : (c : tie.After-no-chart Inv-loop μ-loop) → Sized (c .no-chart .result)
+sized c =
+    record {
+      strokes = search (needs, length-via);
+      segments = search (needs, length-via);
+      bigs = search (needs, length-via);
+      superiors = search (needs, length-via);
+      stroke-few = omega arith;
+      segment-few = omega arith;
+      big-few = omega arith;
+      superior-few = omega arith;
+    }
+
+abbrev at-loop : tie.After-head-of Inv-loop μ-loop → tie.At-loop Inv-loop μ-loop
+at-loop c = c .before .before .before
+
+abbrev start : tie.After-head-of Inv-loop μ-loop → tie.Start Inv-loop μ-loop
+start c = at-loop c .before .before .before
+
+-- the record that is read has a place
+place-of :
+    (c : tie.After-head-of Inv-loop μ-loop) (r : Record) → answerOf (c .head-of .result) ≡ given r
+    → Free (at-loop c .loop .chart) (at-loop c .loop .bars) (start c .args .places) r
+place-of c r e = has-place _ _ _ _ _ (at-loop c .loop .inv) (c .before .before .loop-test .taken) (c .head-of .result) (c .head-of .ensures) r e
+
+-- and it is stored there
+again :
+    (c : tie.After-head-of Inv-loop μ-loop) (r : Record) → answerOf (c .head-of .result) ≡ given r → (to : ℕ)
+    → to ≡ at-loop c .loop .at + suc (suc (width (kind r)))
+    → Reached (start c .args .places) (start c .args .bytes .now) (stored (at-loop c .loop .chart) r) (barsAfter (at-loop c .loop .chart) (at-loop c .loop .bars) (start c .args .places) r) to
+again c r e to t = goes-on _ _ _ _ _ (at-loop c .loop .inv) (c .before .before .loop-test .taken) (c .head-of .result) (c .head-of .ensures) r e to t
+
+stroke-read : (c : tie.After-known-told2 Inv-loop μ-loop) → answerOf (c .before .before .before .head-of .result) ≡ given (stroke (c .before .head2 .given .0 .0))
+stroke-read c = ap answerOf (c .before .head2 .given .1)
+
+segment-read : (c : tie.After-enum-told Inv-loop μ-loop) → answerOf (c .before .before .before .before .before .head-of .result) ≡ given (segment (c .before .before .before .head3 .given .0 .1 .0))
+segment-read c = triple-is _ _ level.Segment _ (c .before .before .before .head3 .given .1) (c .enum-told .given .1)
+
+big-read : (c : tie.After-enum-told2 Inv-loop μ-loop) → answerOf (c .before .before .before .before .before .head-of .result) ≡ given (big (c .before .before .before .head3 .given .0 .1 .0))
+big-read c = triple-is _ _ level.Big _ (c .before .before .before .head3 .given .1) (c .enum-told2 .given .1)
+
+superior-read : (c : tie.After-enum-told3 Inv-loop μ-loop) → answerOf (c .before .before .before .before .before .head-of .result) ≡ given (superior (c .before .before .before .head3 .given .0 .1 .0))
+superior-read c = triple-is _ _ level.Superior _ (c .before .before .before .head3 .given .1) (c .enum-told3 .given .1)
+
+no-chart-requires : tie.Need-no-chart-requires Inv-loop μ-loop
+no-chart-requires c κs = search needs
+
+loop-holds : tie.Need-loop-holds Inv-loop μ-loop
+loop-holds c = let e = c .no-chart .ensures in begins _ _ _ (sized c) (e .0) (e .1) (e .2) (e .3)
+
+sub-head-of : tie.Need-sub-head-of Inv-loop μ-loop
+sub-head-of c = search needs
+
+part-head-of-start : tie.Need-part-head-of-start Inv-loop μ-loop
+part-head-of-start c = search needs
+
+part-head-of-end : tie.Need-part-head-of-end Inv-loop μ-loop
+part-head-of-end c = search needs
+
+head-of-requires : tie.Need-head-of-requires Inv-loop μ-loop
+head-of-requires c κs = search needs
+
+enum-known-head : tie.Need-enum-known-head Inv-loop μ-loop
+enum-known-head c = search needs
+
+refusal-requires : tie.Need-refusal-requires Inv-loop μ-loop
+refusal-requires c κs = search needs
+
+returns : tie.Need-returns Inv-loop μ-loop
+returns c =
+    let read = c .before .before .before .before in
+    rw (c .refusal .ensures .0, c .refusal .ensures .1)
+    (stops _ _ _ _ _ (at-loop read .loop .inv) (read .before .before .loop-test .taken) (read .head-of .result) (read .head-of .ensures) _ (ap answerOf (c .before .before .head .given .1)) _ _)
+
+enum-known-head-2 : tie.Need-enum-known-head-2 Inv-loop μ-loop
+enum-known-head-2 c = search needs
+
+cast-k : tie.Need-cast-k Inv-loop μ-loop
+cast-k c = search needs
+
+mul-s : tie.Need-mul-s Inv-loop μ-loop
+mul-s c = search needs
+
+element-set-from-s : tie.Need-element-set-from-s Inv-loop μ-loop
+element-set-from-s c = omega (arith, place-of (c .before .before .before) _ (stroke-read c))
+
+add-chart : tie.Need-add-chart Inv-loop μ-loop
+add-chart c = search needs
+
+add-at : tie.Need-add-at Inv-loop μ-loop
+add-at c = search needs
+
+loop-less : tie.Need-loop-less Inv-loop μ-loop
+loop-less c = search needs
+
+loop-again : tie.Need-loop-again Inv-loop μ-loop
+unfolding width kind
+loop-again c = again (c .before .before .before) _ (stroke-read c) _ refl
+
+enum-known-head-3 : tie.Need-enum-known-head-3 Inv-loop μ-loop
+enum-known-head-3 c = search needs
+
+add-at-2 : tie.Need-add-at-2 Inv-loop μ-loop
+add-at-2 c = search needs
+
+enum-told : tie.Need-enum-told Inv-loop μ-loop
+enum-told c = search needs
+
+cast-k-2 : tie.Need-cast-k-2 Inv-loop μ-loop
+cast-k-2 c = search needs
+
+mul-t : tie.Need-mul-t Inv-loop μ-loop
+mul-t c = search needs
+
+element-set-from-t : tie.Need-element-set-from-t Inv-loop μ-loop
+element-set-from-t c = omega (arith, place-of (c .before .before .before .before .before) _ (segment-read c))
+
+add-chart-2 : tie.Need-add-chart-2 Inv-loop μ-loop
+add-chart-2 c = search needs
+
+loop-less-2 : tie.Need-loop-less-2 Inv-loop μ-loop
+loop-less-2 c = search needs
+
+loop-again-2 : tie.Need-loop-again-2 Inv-loop μ-loop
+unfolding width kind
+loop-again-2 c = again (c .before .before .before .before .before) _ (segment-read c) _ refl
+
+enum-told-2 : tie.Need-enum-told-2 Inv-loop μ-loop
+enum-told-2 c = search needs
+
+cast-k-3 : tie.Need-cast-k-3 Inv-loop μ-loop
+cast-k-3 c = search needs
+
+mul-t-2 : tie.Need-mul-t-2 Inv-loop μ-loop
+mul-t-2 c = search needs
+
+element-set-from-t-2 : tie.Need-element-set-from-t-2 Inv-loop μ-loop
+element-set-from-t-2 c = omega (arith, place-of (c .before .before .before .before .before) _ (big-read c))
+
+add-chart-3 : tie.Need-add-chart-3 Inv-loop μ-loop
+add-chart-3 c = search needs
+
+loop-less-3 : tie.Need-loop-less-3 Inv-loop μ-loop
+loop-less-3 c = search needs
+
+loop-again-3 : tie.Need-loop-again-3 Inv-loop μ-loop
+unfolding width kind
+loop-again-3 c = again (c .before .before .before .before .before) _ (big-read c) _ refl
+
+enum-told-3 : tie.Need-enum-told-3 Inv-loop μ-loop
+enum-told-3 c = search needs
+
+cast-k-4 : tie.Need-cast-k-4 Inv-loop μ-loop
+cast-k-4 c = search needs
+
+mul-t-3 : tie.Need-mul-t-3 Inv-loop μ-loop
+mul-t-3 c = search needs
+
+element-set-from-t-3 : tie.Need-element-set-from-t-3 Inv-loop μ-loop
+element-set-from-t-3 c = omega (arith, place-of (c .before .before .before .before .before) _ (superior-read c))
+
+add-chart-4 : tie.Need-add-chart-4 Inv-loop μ-loop
+add-chart-4 c = search needs
+
+loop-less-4 : tie.Need-loop-less-4 Inv-loop μ-loop
+loop-less-4 c = search needs
+
+loop-again-4 : tie.Need-loop-again-4 Inv-loop μ-loop
+unfolding width kind
+loop-again-4 c = again (c .before .before .before .before .before) _ (superior-read c) _ refl
+
+enum-told-4 : tie.Need-enum-told-4 Inv-loop μ-loop
+enum-told-4 c = search needs
+
+add-bars : tie.Need-add-bars Inv-loop μ-loop
+add-bars c = record { fits = omega (arith, place-of (c .before .before) _ (ap answerOf (c .enum-told4 .given .1))) }
+
+add-at-3 : tie.Need-add-at-3 Inv-loop μ-loop
+add-at-3 c = search needs
+
+loop-less-5 : tie.Need-loop-less-5 Inv-loop μ-loop
+loop-less-5 c = search needs
+
+loop-again-5 : tie.Need-loop-again-5 Inv-loop μ-loop
+unfolding width kind
+loop-again-5 c = again (c .before .before) _ (ap answerOf (c .enum-told4 .given .1)) _ refl
+
+returns-2 : tie.Need-returns-2 Inv-loop μ-loop
+returns-2 c = ends _ _ _ _ _ (c .before .loop .inv) (c .loop-test .left)
+
+pub scan-spec : {M : Type 1} → statement M
+scan-spec =
+    tie.close
+    (tie.spec
+    Inv-loop
+    μ-loop
+    no-chart-requires
+    loop-holds
+    sub-head-of
+    part-head-of-start
+    part-head-of-end
+    head-of-requires
+    enum-known-head
+    refusal-requires
+    returns
+    enum-known-head-2
+    cast-k
+    mul-s
+    element-set-from-s
+    add-chart
+    add-at
+    loop-less
+    loop-again
+    enum-known-head-3
+    add-at-2
+    enum-told
+    cast-k-2
+    mul-t
+    element-set-from-t
+    add-chart-2
+    loop-less-2
+    loop-again-2
+    enum-told-2
+    cast-k-3
+    mul-t-2
+    element-set-from-t-2
+    add-chart-3
+    loop-less-3
+    loop-again-3
+    enum-told-3
+    cast-k-4
+    mul-t-3
+    element-set-from-t-3
+    add-chart-4
+    loop-less-4
+    loop-again-4
+    enum-told-4
+    add-bars
+    add-at-3
+    loop-less-5
+    loop-again-5
+    returns-2)

@@ -1,0 +1,30 @@
+use Rattle.chart_read.proofs.Fields.{level-width}
+use Rattle.rules.specs.File.{width}
+use borrow.Author.Needs.{needs}
+use Rattle.chart_read.proofs.width_of.Statement.{statement}
+use Rattle.chart_read.proofs.width_of.Tie as tie
+use Rattle.chart_read.proofs.width_of.Reads as reads
+use Rattle.chart_read.proofs.width_of.Lts as lts
+
+enum-told : tie.Need-enum-told
+enum-told c = search needs
+
+enum-told-2 : tie.Need-enum-told-2
+enum-told-2 c = search needs
+
+enum-told-3 : tie.Need-enum-told-3
+enum-told-3 c = search needs
+
+returns : tie.Need-returns
+unfolding width
+returns c = rw (c .enum-told .given .1)
+
+returns-2 : tie.Need-returns-2
+returns-2 c = level-width _ _ (c .enum-told2 .given .1)
+
+returns-3 : tie.Need-returns-3
+unfolding width
+returns-3 c = rw (c .enum-told3 .given .1)
+
+pub width-of-spec : {M : Type 1} → statement M
+width-of-spec = tie.close (tie.spec enum-told enum-told-2 enum-told-3 returns returns-2 returns-3)

@@ -1,0 +1,19 @@
+-- The answer that the reader's struct stands for. Assumes nothing.
+use Prim.Native.Nat.{ℕ, zero, suc}
+use mathlib.Core.Bool.{cond, _||_, not}
+use mathlib.Core.List.{List}
+use lib.ListN.{length, take}
+use lib.Dec.{leb}
+use Rattle.chart.specs.declared.Chart.{Chart}
+use Rattle.rules.specs.Answer.{AnswerBy, NumberAt, refused, given}
+use Rattle.rules.specs.Records.{levelsOf, Quotes}
+use Rattle.rules.specs.Refusals.{overfull}
+use Rattle.rules.specs.File.{Content}
+
+-- A number, a place, a chart and a number of bars, which are the first places of the slices q. A count above its size stands for no answer:
+-- no reading is refused with 0
+unfoldable pub loaded : ℕ → ℕ → Chart → ℕ → Quotes → AnswerBy NumberAt Content
+loaded zero place c n q =
+    cond (overfull c || not (leb n (length (q .highs)))) (refused (record { number = 0; place = 0 }))
+    (given (record { levels = levelsOf c; bars = record { highs = take n (q .highs); lows = take n (q .lows) } }))
+loaded (suc k) place c n q = refused (record { number = suc k; place = place })

@@ -1,0 +1,390 @@
+// Reading a chart file: every byte string gets an answer.
+use chart::Chart;
+use chart::Stroke;
+use chart::Triple;
+use price::PriceRead;
+ghost use mathlib.Core.Path.{_≡_};
+ghost use mathlib.Core.Bool.{true};
+ghost use Prim.Native.Nat.{_+_, _*_, _≤_};
+ghost use lib.ListN.{length};
+ghost use Rattle.rules.specs.Records.{Quotes, levelsOf};
+ghost use Rattle.rules.specs.Refusals.{aboveOne};
+ghost use Rattle.rules.specs.File.{ST, BR, tripleIn, kindOf, width, nothing, readRecord, readFile, readCall, slicesAfter};
+ghost use Rattle.chart_read.specs.Loaded.{loaded};
+ghost use Rattle.chart_read.specs.Heads.{levelKind, kindBy, markedBy, answerOf, checked, fullBy, countBars, counted, isGiven};
+
+// A number, 0 where the file is accepted; where it is not, the place of the record's mark. The chart and the number of bars.
+pub struct Loaded {
+    pub number: u8,
+    pub place: usize,
+    pub chart: Chart,
+    pub bars: usize,
+}
+
+// The levels above the strokes, whose records are triples.
+enum Level {
+    Segment,
+    Big,
+    Superior,
+}
+
+// The kinds of record.
+enum Mark {
+    Stroke,
+    Triple(Level),
+    Bar,
+}
+
+// What two bytes mark.
+enum MarkRead {
+    Mark(Mark),
+    NoMark,
+}
+
+// The record at the head of some bytes, or the number of its refusal.
+enum Head {
+    Refused(u8),
+    Stroke(Stroke),
+    Triple(Level, Triple),
+    Bar(f64, f64),
+}
+
+// How many records of each kind there are, and how many places for bars.
+struct Counts {
+    strokes: u16,
+    segments: u16,
+    bigs: u16,
+    superiors: u16,
+    bars: usize,
+    places: usize,
+}
+
+const NO_STROKE: Stroke = Stroke {
+    direction: 0,
+    start_bar: 0,
+    end_bar: 0,
+    start_price: 0.0,
+    end_price: 0.0,
+};
+
+const NO_TRIPLE: Triple = Triple {
+    direction: 0,
+    first: 0,
+    last: 0,
+};
+
+// A chart with no record.
+fn no_chart() -> Chart
+    ensures { λ r. ⌜ (r .«stroke_count» ≡ 0) × (r .«segment_count» ≡ 0) × (r .«big_count» ≡ 0) × (r .«superior_count» ≡ 0) ⌝ }
+{
+    let strokes = [NO_STROKE; 512];
+    let triples = [NO_TRIPLE; 256];
+    Chart {
+        strokes: strokes,
+        stroke_count: 0,
+        segments: triples,
+        segment_count: 0,
+        bigs: triples,
+        big_count: 0,
+        superiors: triples,
+        superior_count: 0,
+    }
+}
+
+// Two bytes, the lower first.
+fn two_of(a: u8, b: u8) -> u16
+    ensures { λ r. ⌜ r ≡ a + 256 * b ⌝ }
+{
+    a as u16 + 256 * (b as u16)
+}
+
+// The kind that two bytes mark.
+fn mark_of(a: u8, b: u8) -> MarkRead
+    ensures { λ r. ⌜ markedBy r ≡ kindOf a b ⌝ }
+{
+    if a == b'B' {
+        if b == b'R' {
+            return MarkRead::Mark(Mark::Bar);
+        }
+        if b == b'G' {
+            return MarkRead::Mark(Mark::Triple(Level::Big));
+        }
+        return MarkRead::NoMark;
+    }
+    if a == b'S' {
+        if b == b'T' {
+            return MarkRead::Mark(Mark::Stroke);
+        }
+        if b == b'G' {
+            return MarkRead::Mark(Mark::Triple(Level::Segment));
+        }
+        if b == b'U' {
+            return MarkRead::Mark(Mark::Triple(Level::Superior));
+        }
+    }
+    MarkRead::NoMark
+}
+
+// How many bytes a record has behind its mark.
+fn width_of(m: Mark) -> usize
+    ensures { λ r. ⌜ r ≡ width (kindBy m) ⌝ }
+{
+    match m {
+        Mark::Stroke => 21,
+        Mark::Triple(_) => 5,
+        Mark::Bar => 16,
+    }
+}
+
+// Whether there is no place for one more triple of a level.
+fn level_full(counts: Counts, l: Level) -> bool
+    ensures { λ r. ⌜ r ≡ fullBy counts (levelKind l) ⌝ }
+{
+    match l {
+        Level::Segment => 256 <= counts.segments,
+        Level::Big => 256 <= counts.bigs,
+        Level::Superior => 256 <= counts.superiors,
+    }
+}
+
+// Whether there is no place for one more of a kind.
+fn is_full(counts: Counts, m: Mark) -> bool
+    ensures { λ r. ⌜ r ≡ fullBy counts (kindBy m) ⌝ }
+{
+    match m {
+        Mark::Stroke => 512 <= counts.strokes,
+        Mark::Triple(l) => level_full(counts, l),
+        Mark::Bar => counts.places <= counts.bars,
+    }
+}
+
+// A direction is 0 or 1.
+fn wrong_direction(d: u8) -> bool
+    ensures { λ r. ⌜ r ≡ aboveOne d ⌝ }
+{
+    1 < d
+}
+
+// The triple in the bytes behind a mark: its direction, first and last. A stroke begins so too, with its bars.
+fn triple_at(s: &[u8]) -> Triple
+    requires { ⌜ 5 ≤ length (now s) ⌝ }
+    ensures { λ r. ⌜ r ≡ tripleIn (now (s .entry)) ⌝ }
+{
+    Triple {
+        direction: s[0],
+        first: two_of(s[1], s[2]),
+        last: two_of(s[3], s[4]),
+    }
+}
+
+// The triple of a level, where its direction is one.
+fn triple_in(s: &[u8], l: Level) -> Head
+    requires { ⌜ 5 ≤ length (now s) ⌝ }
+    ensures { λ r. ⌜ answerOf r ≡ checked (levelKind l) (now (s .entry)) ⌝ }
+{
+    let triple = triple_at(s);
+    if wrong_direction(triple.direction) {
+        return Head::Refused(2);
+    }
+    Head::Triple(l, triple)
+}
+
+// The stroke, where its direction and its prices are. What is no price never becomes an f64.
+fn stroke_in(s: &[u8]) -> Head
+    requires { ⌜ 21 ≤ length (now s) ⌝ }
+    ensures { λ r. ⌜ answerOf r ≡ checked ST (now (s .entry)) ⌝ }
+{
+    let begun = triple_at(s);
+    if wrong_direction(begun.direction) {
+        return Head::Refused(2);
+    }
+    let PriceRead::Price(start_price) = price::get_price(&s[5..]) else {
+        return Head::Refused(1);
+    };
+    let PriceRead::Price(end_price) = price::get_price(&s[13..]) else {
+        return Head::Refused(1);
+    };
+    let stroke = Stroke {
+        direction: begun.direction,
+        start_bar: begun.first,
+        end_bar: begun.last,
+        start_price: start_price,
+        end_price: end_price,
+    };
+    Head::Stroke(stroke)
+}
+
+// The bar: its high, then its low.
+fn bar_in(s: &[u8]) -> Head
+    requires { ⌜ 16 ≤ length (now s) ⌝ }
+    ensures { λ r. ⌜ answerOf r ≡ checked BR (now (s .entry)) ⌝ }
+{
+    let PriceRead::Price(high) = price::get_price(s) else {
+        return Head::Refused(1);
+    };
+    let PriceRead::Price(low) = price::get_price(&s[8..]) else {
+        return Head::Refused(1);
+    };
+    Head::Bar(high, low)
+}
+
+// The record of a kind.
+fn fields_in(s: &[u8], m: Mark) -> Head
+    requires { ⌜ width (kindBy m) ≤ length (now s) ⌝ }
+    ensures { λ r. ⌜ answerOf r ≡ checked (kindBy m) (now (s .entry)) ⌝ }
+{
+    match m {
+        Mark::Stroke => stroke_in(s),
+        Mark::Triple(l) => triple_in(s, l),
+        Mark::Bar => bar_in(s),
+    }
+}
+
+// The record at the head of some bytes.
+fn head_of(s: &[u8], counts: Counts) -> Head
+    ensures { λ r. ⌜ answerOf r ≡ readRecord (fullBy counts) (now (s .entry)) ⌝ }
+{
+    if s.len() < 2 {
+        return Head::Refused(13);
+    }
+    let MarkRead::Mark(m) = mark_of(s[0], s[1]) else {
+        return Head::Refused(12);
+    };
+    let cut = s.len() - 2 < width_of(m);
+    let full = is_full(counts, m);
+    if cut {
+        return Head::Refused(13);
+    }
+    if full {
+        return Head::Refused(3);
+    }
+    fields_in(&s[2..], m)
+}
+
+// A refusal holds no chart.
+fn refusal(number: u8, place: usize) -> Loaded
+    ensures { λ r. ⌜ (r .number ≡ number) × (r .place ≡ place) ⌝ }
+{
+    Loaded {
+        number: number,
+        place: place,
+        chart: no_chart(),
+        bars: 0,
+    }
+}
+
+// The chart of a file with so many places for bars. Its bars are tested and counted.
+fn scan(bytes: &[u8], places: usize) -> Loaded
+    ensures { λ r. ⌜ counted (r .number) (r .place) (r .chart) (r .bars) ≡ countBars (readFile places (now (bytes .entry))) ⌝ }
+{
+    let mut chart = no_chart();
+    let mut bars = 0usize;
+    let mut at = 0usize;
+    while at < bytes.len() {
+        let counts = Counts {
+            strokes: chart.stroke_count,
+            segments: chart.segment_count,
+            bigs: chart.big_count,
+            superiors: chart.superior_count,
+            bars: bars,
+            places: places,
+        };
+        let head = head_of(&bytes[at..], counts);
+        match head {
+            Head::Refused(number) => {
+                return refusal(number, at);
+            }
+            Head::Stroke(s) => {
+                let k = chart.stroke_count as usize;
+                chart.strokes[k] = s;
+                chart.stroke_count += 1;
+                at += 23;
+            }
+            Head::Triple(l, t) => {
+                at += 7;
+                match l {
+                    Level::Segment => {
+                        let k = chart.segment_count as usize;
+                        chart.segments[k] = t;
+                        chart.segment_count += 1;
+                    }
+                    Level::Big => {
+                        let k = chart.big_count as usize;
+                        chart.bigs[k] = t;
+                        chart.big_count += 1;
+                    }
+                    Level::Superior => {
+                        let k = chart.superior_count as usize;
+                        chart.superiors[k] = t;
+                        chart.superior_count += 1;
+                    }
+                }
+            }
+            Head::Bar(_, _) => {
+                bars += 1;
+                at += 18;
+            }
+        }
+    }
+    Loaded {
+        number: 0,
+        place: 0,
+        chart: chart,
+        bars: bars,
+    }
+}
+
+// Puts the bars of an accepted file into the first places of the slices.
+fn fill_bars(bytes: &[u8], highs: &mut [f64], lows: &mut [f64])
+    requires { ⌜ length (now highs) ≡ length (now lows) ⌝ }
+    requires { ⌜ isGiven (readFile (length (now highs)) (now bytes)) ≡ true ⌝ }
+    ensures { λ _. ⌜ record { highs = now (highs .exit); lows = now (lows .exit) } ≡ slicesAfter (readFile (length (now (highs .entry))) (now (bytes .entry))) (record { highs = now (highs .entry); lows = now (lows .entry) }) ⌝ }
+{
+    let counts = Counts {
+        strokes: 0,
+        segments: 0,
+        bigs: 0,
+        superiors: 0,
+        bars: 0,
+        places: 1,
+    };
+    let mut bars = 0usize;
+    let mut at = 0usize;
+    while at < bytes.len() {
+        let head = head_of(&bytes[at..], counts);
+        match head {
+            Head::Refused(_) => {
+                return;
+            }
+            Head::Stroke(_) => {
+                at += 23;
+            }
+            Head::Triple(_, _) => {
+                at += 7;
+            }
+            Head::Bar(h, l) => {
+                highs[bars] = h;
+                lows[bars] = l;
+                bars += 1;
+                at += 18;
+            }
+        }
+    }
+}
+
+// The chart of a file, and its bars in the first places of the lent slices. The whole file is tested first, so that a refused one
+// leaves the slices as they were.
+pub fn read_chart(bytes: &[u8], highs: &mut [f64], lows: &mut [f64]) -> Loaded
+    ensures { λ r. ⌜ loaded (r .number) (r .place) (r .chart) (r .bars) (record { highs = now (highs .exit); lows = now (lows .exit) }) ≡ readCall (record { highs = now (highs .entry); lows = now (lows .entry) }) (now (bytes .entry)) ⌝ }
+    ensures { λ r. ⌜ record { highs = now (highs .exit); lows = now (lows .exit) } ≡ slicesAfter (readCall (record { highs = now (highs .entry); lows = now (lows .entry) }) (now (bytes .entry))) (record { highs = now (highs .entry); lows = now (lows .entry) }) ⌝ }
+{
+    if highs.len() != lows.len() {
+        return refusal(8, 0);
+    }
+    let r = scan(bytes, highs.len());
+    if r.number != 0 {
+        return r;
+    }
+    fill_bars(bytes, highs, lows);
+    r
+}

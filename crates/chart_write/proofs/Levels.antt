@@ -1,0 +1,88 @@
+-- The records of a level that are left from place i on: the next one, and none. Assumes nothing.
+use Prim.Native.Nat.{ℕ, zero, suc, _+_, _≤_, _<_}
+use native.Mathlib.Omega.{arith}
+use native.Mathlib.Numerals.{add-one}
+use mathlib.Core.Path.{_≡_, refl, ap}
+use mathlib.Core.Bool.{true, false}
+use mathlib.Core.List.{List, [], _∷_, map}
+use lib.ListN.{length, getD, take, drop, drop-of-length-le}
+use lib.Seq.{drop-cons}
+use lib.Ieee.{Float, nan}
+use Rattle.chart.specs.declared.Stroke.{Stroke}
+use Rattle.chart.specs.declared.Triple.{Triple}
+use Rattle.price.specs.Price.{isPrice, Price, allPrices}
+use Rattle.price.specs.Bytes.{bytesOf}
+use Rattle.rules.specs.Lists.{any, each}
+use Rattle.rules.specs.Refusals.{badPrices, wrongStroke, aboveOne}
+use Rattle.rules.specs.File.{stroke, bar, kind, width, tripleBytes, recordBytes, barRecords}
+use Rattle.laws.proofs.FileBytes.{length-record}
+use Rattle.laws.proofs.Lists.{any-at}
+use Rattle.laws.proofs.Tests.{or-r, and-l, and-r}
+use Rattle.laws.proofs.Arrays.{at-in, left-more, left-none}
+use Rattle.levels.proofs.Read.{no-stroke, no-triple}
+use Rattle.chart_write.specs.Put.{marked}
+use Rattle.chart_write.proofs.Put.{Next}
+
+-- how long a record is
+length-marked : (a b : ℕ) (t : Triple) → length (marked a b t) ≡ 7
+unfolding marked tripleBytes bytesOf
+length-marked a b t = refl
+
+length-stroke : (s : Stroke) → length (recordBytes (stroke s)) ≡ 23
+unfolding width kind
+length-stroke s = length-record (stroke s)
+
+length-bar : (h l : Float) → length (recordBytes (bar h l)) ≡ 18
+unfolding width kind
+length-bar h l = length-record (bar h l)
+
+module _ (a b n i : ℕ) (xs : List Triple) (h : n ≤ length xs) where
+  pub triple-next :
+      i < n → Next 7 (each (marked a b) (drop i (take n xs))) (marked a b (getD xs i no-triple)) (each (marked a b) (drop (i + 1) (take n xs)))
+  triple-next k = record { split = ap (each (marked a b)) (left-more n i xs no-triple k h); size = length-marked a b (getD xs i no-triple) }
+
+  pub triple-none : n ≤ i → each (marked a b) (drop i (take n xs)) ≡ []
+  triple-none k = ap (each (marked a b)) (left-none n i xs k h)
+
+module _ (n i : ℕ) (xs : List Stroke) (h : n ≤ length xs) where
+  pub stroke-next :
+      i < n
+      → Next 23 (each recordBytes (map stroke (drop i (take n xs)))) (recordBytes (stroke (getD xs i no-stroke)))
+      (each recordBytes (map stroke (drop (i + 1) (take n xs))))
+  stroke-next k =
+      record {
+        split = ap (λ (l : List Stroke). each recordBytes (map stroke l)) (left-more n i xs no-stroke k h);
+        size = length-stroke (getD xs i no-stroke);
+      }
+
+  pub stroke-none : n ≤ i → each recordBytes (map stroke (drop i (take n xs))) ≡ []
+  stroke-none k = ap (λ (l : List Stroke). each recordBytes (map stroke l)) (left-none n i xs k h)
+
+  -- a stroke of the level can be written
+  pub stroke-prices : i < n → any wrongStroke (take n xs) ≡ false → badPrices (getD xs i no-stroke) ≡ false
+  unfolding wrongStroke
+  stroke-prices k e =
+      let s = getD xs i no-stroke in
+      or-r (aboveOne (s .direction)) (badPrices s) (any-at wrongStroke (take n xs) i s e (at-in n i xs no-stroke k (omega arith)))
+
+module _ (i : ℕ) (hs ls : List Float) (e : length hs ≡ length ls) where
+  pub bar-next :
+      i < length hs
+      → Next 18 (each recordBytes (barRecords (drop i hs) (drop i ls))) (recordBytes (bar (getD hs i nan) (getD ls i nan)))
+      (each recordBytes (barRecords (drop (i + 1) hs) (drop (i + 1) ls)))
+  unfolding barRecords
+  bar-next k =
+      record {
+        split = rw (add-one i, drop-cons hs i nan k, drop-cons ls i nan (omega arith));
+        size = length-bar (getD hs i nan) (getD ls i nan);
+      }
+
+  pub bar-none : length hs ≤ i → each recordBytes (barRecords (drop i hs) (drop i ls)) ≡ []
+  unfolding barRecords
+  bar-none k = rw (drop-of-length-le hs {i = i} k)
+
+pub price-at : (l : List Float) (i : ℕ) → allPrices l ≡ true → i < length l → Price (getD l i nan)
+unfolding allPrices
+price-at [] i e h = absurd (omega arith)
+price-at (x ∷ l) zero e h = and-l (isPrice x) (allPrices l) e
+price-at (x ∷ l) (suc i) e h = price-at l i (and-r (isPrice x) (allPrices l) e) (omega arith)

@@ -1,0 +1,100 @@
+-- `chart_write::put_bars` meets its contract. The invariant: the bytes that are left, put from the place reached on, make the wanted buffer.
+-- Assumes nothing.
+use Prim.Native.Nat.{_≤_, _-_}
+use native.Mathlib.Omega.{arith}
+use lib.ListN.{length, drop}
+use Rattle.rules.specs.Lists.{each}
+use Rattle.chart_write.proofs.Levels.{bar-next, bar-none, price-at}
+use Rattle.chart_write.proofs.Put.{Writing, begun, room-next, written-next, ended}
+use Rattle.rules.specs.File.{recordBytes, barRecords}
+use borrow.Author.Needs.{needs}
+use Rattle.chart_write.proofs.put_bars.Statement.{statement}
+use Rattle.chart_write.proofs.put_bars.Tie as tie
+
+abbrev Inv-loop : tie.InvT-loop
+Inv-loop highs lows buffer₀ at end₀ i₀ buffer end i =
+    (i ≤ length highs)
+    × Writing at (each recordBytes (barRecords highs lows)) buffer₀ end (each recordBytes (barRecords (drop i highs) (drop i lows))) buffer
+
+abbrev μ-loop : tie.MeasureT-loop
+μ-loop highs lows buffer₀ at end₀ i₀ buffer end i = length highs - i
+
+loop-holds : tie.Need-loop-holds Inv-loop μ-loop
+loop-holds c = (omega arith, begun _ _ _ (c .before .before .before .pre .1 .1))
+
+sub-put-bar : tie.Need-sub-put-bar Inv-loop μ-loop
+sub-put-bar c = search needs
+
+part-put-bar-start : tie.Need-part-put-bar-start Inv-loop μ-loop
+part-put-bar-start c = search needs
+
+part-put-bar-end : tie.Need-part-put-bar-end Inv-loop μ-loop
+part-put-bar-end c = search needs
+
+mul-put-bar : tie.Need-mul-put-bar Inv-loop μ-loop
+mul-put-bar c = search needs
+
+shared-slice-read-put-bar : tie.Need-shared-slice-read-put-bar Inv-loop μ-loop
+shared-slice-read-put-bar c = search needs
+
+mul-put-bar-2 : tie.Need-mul-put-bar-2 Inv-loop μ-loop
+mul-put-bar-2 c = search needs
+
+shared-slice-read-put-bar-2 : tie.Need-shared-slice-read-put-bar-2 Inv-loop μ-loop
+shared-slice-read-put-bar-2 c = search needs
+
+put-bar-requires : tie.Need-put-bar-requires Inv-loop μ-loop
+put-bar-requires c κs =
+    let turn = c .before .before .before in
+    let head = turn .before in
+    let start = head .before .before .before .before in
+    let prices = start .pre .1 .0 in (
+      room-next (head .loop .inv .1) (bar-next _ _ _ (start .pre .0) (turn .loop-test .taken)),
+      (price-at _ _ (prices .0) (omega arith), price-at _ _ (prices .1) (omega arith)),
+    )
+
+add-end : tie.Need-add-end Inv-loop μ-loop
+add-end c = search needs
+
+add-i : tie.Need-add-i Inv-loop μ-loop
+add-i c = search needs
+
+loop-less : tie.Need-loop-less Inv-loop μ-loop
+loop-less c = search needs
+
+loop-again : tie.Need-loop-again Inv-loop μ-loop
+loop-again c =
+    let turn = c .before .before .before .before .before .before in
+    let head = turn .before in
+    let next = bar-next _ _ _ (head .before .before .before .before .pre .0) (turn .loop-test .taken) in
+    (omega arith, written-next (head .loop .inv .1) next _ (c .before .before .put-bar .ensures))
+
+same-length : tie.Need-same-length Inv-loop μ-loop
+same-length c = c .before .loop .inv .1 .long
+
+returns : tie.Need-returns Inv-loop μ-loop
+returns c =
+    let head = c .before in
+    ended (head .loop .inv .1) (bar-none _ _ _ (head .before .before .before .before .pre .0) (c .loop-test .left))
+
+pub put-bars-spec : {M : Type 1} → statement M
+put-bars-spec =
+    tie.close
+    (tie.spec
+    Inv-loop
+    μ-loop
+    loop-holds
+    sub-put-bar
+    part-put-bar-start
+    part-put-bar-end
+    mul-put-bar
+    shared-slice-read-put-bar
+    mul-put-bar-2
+    shared-slice-read-put-bar-2
+    put-bar-requires
+    add-end
+    add-i
+    loop-less
+    loop-again
+    same-length
+    returns)

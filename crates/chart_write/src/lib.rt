@@ -1,0 +1,317 @@
+// Writing a chart file.
+use chart::Chart;
+use chart::Stroke;
+use chart::Triple;
+ghost use mathlib.Core.Path.{_≡_};
+ghost use mathlib.Core.Bool.{true, false};
+ghost use mathlib.Core.List.{map};
+ghost use Prim.Native.Nat.{_+_, _*_, _/_, _%_, _≤_};
+ghost use lib.ListN.{length, take};
+ghost use lib.Dec.{ltb};
+ghost use Rattle.price.specs.Price.{Price, allPrices};
+ghost use Rattle.price.specs.Bytes.{priceBytes};
+ghost use Rattle.rules.specs.Answer.{answered};
+ghost use Rattle.rules.specs.Lists.{any, each};
+ghost use Rattle.rules.specs.Records.{Quotes, levelsOf};
+ghost use Rattle.rules.specs.Refusals.{refuse, badPrices, wrongStroke, badChart, badQuotes};
+ghost use Rattle.rules.specs.File.{Record, stroke, bar, recordBytes, barRecords, fill, writeRefusal, writeCall, bufferAfter};
+ghost use Rattle.chart_write.specs.Put.{putAt, marked, levelBytes};
+
+// ---- one record
+
+// The lower byte of a number, and the higher one.
+fn low_byte(n: u16) -> u8
+    ensures { λ r. ⌜ r ≡ n % 256 ⌝ }
+{
+    (n % 256) as u8
+}
+
+fn high_byte(n: u16) -> u8
+    ensures { λ r. ⌜ r ≡ n / 256 % 256 ⌝ }
+{
+    (n / 256) as u8
+}
+
+// A price's eight bytes.
+fn price_bytes(x: f64) -> [u8; 8]
+    requires { ⌜ Price x ⌝ }
+    ensures { λ r. ⌜ r ≡ priceBytes x ⌝ }
+{
+    price::bytes_of(price::bits_of_price(x))
+}
+
+// A stroke's record.
+fn stroke_bytes(s: Stroke) -> [u8; 23]
+    requires { ⌜ badPrices s ≡ false ⌝ }
+    ensures { λ r. ⌜ r ≡ recordBytes (stroke s) ⌝ }
+{
+    let a = price_bytes(s.start_price);
+    let b = price_bytes(s.end_price);
+    [
+        b'S',
+        b'T',
+        s.direction,
+        low_byte(s.start_bar),
+        high_byte(s.start_bar),
+        low_byte(s.end_bar),
+        high_byte(s.end_bar),
+        a[0],
+        a[1],
+        a[2],
+        a[3],
+        a[4],
+        a[5],
+        a[6],
+        a[7],
+        b[0],
+        b[1],
+        b[2],
+        b[3],
+        b[4],
+        b[5],
+        b[6],
+        b[7],
+    ]
+}
+
+// The record of a segment, a big or a superior, whose mark is a and b.
+fn triple_bytes(a: u8, b: u8, t: Triple) -> [u8; 7]
+    ensures { λ r. ⌜ r ≡ marked a b t ⌝ }
+{
+    [
+        a,
+        b,
+        t.direction,
+        low_byte(t.first),
+        high_byte(t.first),
+        low_byte(t.last),
+        high_byte(t.last),
+    ]
+}
+
+// A bar's record: the high, then the low.
+fn bar_bytes(high: f64, low: f64) -> [u8; 18]
+    requires { ⌜ Price high × Price low ⌝ }
+    ensures { λ r. ⌜ r ≡ recordBytes (bar high low) ⌝ }
+{
+    let a = price_bytes(high);
+    let b = price_bytes(low);
+    [
+        b'B',
+        b'R',
+        a[0],
+        a[1],
+        a[2],
+        a[3],
+        a[4],
+        a[5],
+        a[6],
+        a[7],
+        b[0],
+        b[1],
+        b[2],
+        b[3],
+        b[4],
+        b[5],
+        b[6],
+        b[7],
+    ]
+}
+
+// Each of these writes one record at the start of the part of the buffer that it is lent.
+
+fn put_stroke(out: &mut [u8], s: Stroke)
+    requires { ⌜ 23 ≤ length (now out) ⌝ }
+    requires { ⌜ badPrices s ≡ false ⌝ }
+    ensures { λ _. ⌜ now (out .exit) ≡ fill (recordBytes (stroke s)) (now (out .entry)) ⌝ }
+{
+    let bytes = stroke_bytes(s);
+    bytes::copy(&bytes, out);
+}
+
+fn put_triple(out: &mut [u8], a: u8, b: u8, t: Triple)
+    requires { ⌜ 7 ≤ length (now out) ⌝ }
+    ensures { λ _. ⌜ now (out .exit) ≡ fill (marked a b t) (now (out .entry)) ⌝ }
+{
+    let bytes = triple_bytes(a, b, t);
+    bytes::copy(&bytes, out);
+}
+
+fn put_bar(out: &mut [u8], high: f64, low: f64)
+    requires { ⌜ 18 ≤ length (now out) ⌝ }
+    requires { ⌜ Price high × Price low ⌝ }
+    ensures { λ _. ⌜ now (out .exit) ≡ fill (recordBytes (bar high low)) (now (out .entry)) ⌝ }
+{
+    let bytes = bar_bytes(high, low);
+    bytes::copy(&bytes, out);
+}
+
+// ---- one level. Each of these writes its records into the buffer from place `at` on, and gives the place behind them.
+// The part that starts at a record's place is lent for it.
+
+fn put_bars(highs: &[f64], lows: &[f64], buffer: &mut [u8], at: usize) -> usize
+    requires { ⌜ length (now highs) ≡ length (now lows) ⌝ }
+    requires { ⌜ (allPrices (now highs) ≡ true) × (allPrices (now lows) ≡ true) ⌝ }
+    requires { ⌜ at + length (each recordBytes (barRecords (now highs) (now lows))) ≤ length (now buffer) ⌝ }
+    ensures { λ r. ⌜ r ≡ at + length (each recordBytes (barRecords (now (highs .entry)) (now (lows .entry)))) ⌝ }
+    ensures { λ _. ⌜ now (buffer .exit) ≡ putAt (each recordBytes (barRecords (now (highs .entry)) (now (lows .entry)))) at (now (buffer .entry)) ⌝ }
+{
+    let mut end = at;
+    let mut i = 0usize;
+    while i < highs.len() {
+        put_bar(&mut buffer[end..], highs[i], lows[i]);
+        end += 18;
+        i += 1;
+    }
+    end
+}
+
+fn put_strokes(strokes: [Stroke; 512], n: u16, buffer: &mut [u8], at: usize) -> usize
+    requires { ⌜ n ≤ 512 ⌝ }
+    requires { ⌜ any wrongStroke (take n strokes) ≡ false ⌝ }
+    requires { ⌜ at + length (each recordBytes (map stroke (take n strokes))) ≤ length (now buffer) ⌝ }
+    ensures { λ r. ⌜ r ≡ at + length (each recordBytes (map stroke (take n strokes))) ⌝ }
+    ensures { λ _. ⌜ now (buffer .exit) ≡ putAt (each recordBytes (map stroke (take n strokes))) at (now (buffer .entry)) ⌝ }
+{
+    let mut end = at;
+    let mut i = 0u16;
+    while i < n {
+        let s = strokes[i as usize];
+        put_stroke(&mut buffer[end..], s);
+        end += 23;
+        i += 1;
+    }
+    end
+}
+
+// Segments, bigs or superiors, by the mark a and b.
+fn put_triples(a: u8, b: u8, triples: [Triple; 256], n: u16, buffer: &mut [u8], at: usize) -> usize
+    requires { ⌜ n ≤ 256 ⌝ }
+    requires { ⌜ at + length (each (marked a b) (take n triples)) ≤ length (now buffer) ⌝ }
+    ensures { λ r. ⌜ r ≡ at + length (each (marked a b) (take n triples)) ⌝ }
+    ensures { λ _. ⌜ now (buffer .exit) ≡ putAt (each (marked a b) (take n triples)) at (now (buffer .entry)) ⌝ }
+{
+    let mut end = at;
+    let mut i = 0u16;
+    while i < n {
+        let t = triples[i as usize];
+        put_triple(&mut buffer[end..], a, b, t);
+        end += 7;
+        i += 1;
+    }
+    end
+}
+
+// The four levels of a chart, which is not refused with 21.
+fn put_levels(chart: Chart, buffer: &mut [u8], at: usize) -> usize
+    requires { ⌜ badChart chart ≡ false ⌝ }
+    requires { ⌜ at + length (levelBytes (levelsOf chart)) ≤ length (now buffer) ⌝ }
+    ensures { λ r. ⌜ r ≡ at + length (levelBytes (levelsOf chart)) ⌝ }
+    ensures { λ _. ⌜ now (buffer .exit) ≡ putAt (levelBytes (levelsOf chart)) at (now (buffer .entry)) ⌝ }
+{
+    let strokes = chart.strokes;
+    let segments = chart.segments;
+    let bigs = chart.bigs;
+    let superiors = chart.superiors;
+    let mut end = put_strokes(strokes, chart.stroke_count, buffer, at);
+    end = put_triples(b'S', b'G', segments, chart.segment_count, buffer, end);
+    end = put_triples(b'B', b'G', bigs, chart.big_count, buffer, end);
+    put_triples(b'S', b'U', superiors, chart.superior_count, buffer, end)
+}
+
+// ---- refusals
+
+// How many bytes the records of the four levels take.
+fn levels_size(strokes: u16, segments: u16, bigs: u16, superiors: u16) -> usize
+    ensures { λ r. ⌜ r ≡ 23 * strokes + 7 * segments + 7 * bigs + 7 * superiors ⌝ }
+{
+    23 * strokes as usize + 7 * segments as usize + 7 * bigs as usize + 7 * superiors as usize
+}
+
+// Whether a buffer of so many bytes is too short for levels of this size and some bars. By a quotient, since 18 bytes for each bar
+// might not fit a usize.
+fn too_short(room: usize, size: usize, bars: usize) -> bool
+    ensures { λ r. ⌜ r ≡ ltb room (size + 18 * bars) ⌝ }
+{
+    if room < size {
+        return true;
+    }
+    (room - size) / 18 < bars
+}
+
+// Whether some high or low is no price.
+fn bad_quotes(highs: &[f64], lows: &[f64]) -> bool
+    ensures { λ r. ⌜ r ≡ badQuotes (record { highs = now (highs .entry); lows = now (lows .entry) }) ⌝ }
+{
+    if price::all_prices(highs) {
+        return !price::all_prices(lows);
+    }
+    true
+}
+
+// The number of the first refusal that applies, 0 where none does.
+fn first_of(bad: bool, unequal: bool, wrong: bool, short: bool) -> u8
+    ensures { λ r. ⌜ r ≡ refuse bad 21 (refuse unequal 8 (refuse wrong 1 (refuse short 3 0))) ⌝ }
+{
+    if bad {
+        return 21;
+    }
+    if unequal {
+        return 8;
+    }
+    if wrong {
+        return 1;
+    }
+    if short {
+        return 3;
+    }
+    0
+}
+
+// 21; 8 slices unequal; 1 in either slice; 3 buffer too short. The size by counts is that of the bytes where 21 and 8 don't apply.
+fn refusal(chart: Chart, highs: &[f64], lows: &[f64], buffer: &[u8]) -> u8
+    ensures { λ r. ⌜ r ≡ writeRefusal chart (record { highs = now (highs .entry); lows = now (lows .entry) }) (now (buffer .entry)) ⌝ }
+{
+    let size = levels_size(
+        chart.stroke_count,
+        chart.segment_count,
+        chart.big_count,
+        chart.superior_count,
+    );
+    first_of(
+        levels::bad_chart(chart),
+        highs.len() != lows.len(),
+        bad_quotes(highs, lows),
+        too_short(buffer.len(), size, highs.len()),
+    )
+}
+
+// ---- the call
+
+// A number, 0 where the chart is written, and the byte count, 0 where it is refused.
+pub struct Written {
+    pub number: u8,
+    pub count: usize,
+}
+
+// Writes bars, strokes, segments, bigs, superiors: 21; 8 slices unequal; 1 in either slice; 3 buffer too short. A refused writing
+// leaves the buffer as it was.
+pub fn write_chart(chart: Chart, highs: &[f64], lows: &[f64], buffer: &mut [u8]) -> Written
+    ensures { λ r. ⌜ answered (r .number) (r .count) ≡ writeCall chart (record { highs = now (highs .entry); lows = now (lows .entry) }) (now (buffer .entry)) ⌝ }
+    ensures { λ r. ⌜ now (buffer .exit) ≡ bufferAfter chart (record { highs = now (highs .entry); lows = now (lows .entry) }) (now (buffer .entry)) ⌝ }
+    ensures { λ r. ⌜ ((r .number ≡ 0 → ⊥) → r .count ≡ 0) ⌝ }
+{
+    let number = refusal(chart, highs, lows, &buffer[..]);
+    if number != 0 {
+        return Written {
+            number: number,
+            count: 0,
+        };
+    }
+    let at = put_bars(highs, lows, buffer, 0);
+    let count = put_levels(chart, buffer, at);
+    Written {
+        number: 0,
+        count: count,
+    }
+}
