@@ -1,19 +1,18 @@
 -- The whole call: what the scan's answer says of the file, and the bars in the slices. Assumes nothing.
-use Prim.Native.Nat.{ℕ, zero, suc, _+_, _<_, _≤_}
+use Prim.Native.Nat.{ℕ, zero, suc, _<_}
 use native.Mathlib.Omega.{arith}
 use mathlib.Core.Path.{_≡_, refl, sym, ap, _∙_}
-use mathlib.Core.Bool.{Bool, true, false, cond, not, _||_}
-use mathlib.Core.List.{List, [], _∷_, _++_}
-use lib.ListN.{length, take, drop, length-append}
+use mathlib.Core.Bool.{Bool, true, false, cond}
+use mathlib.Core.List.{List, _∷_, _++_}
+use lib.ListN.{length, drop, length-append}
 use lib.Seq.{take-at}
-use lib.Dec.{eqb, leb}
 use borrow.Author.Tests.{eq-eqb, ne-eqb, le-leb}
 use Rattle.chart.specs.declared.Chart.{Chart}
 use Rattle.rules.specs.Answer.{AnswerBy, NumberAt, refused, given}
 use Rattle.rules.specs.Records.{levelsOf, Quotes}
 use Rattle.rules.specs.Refusals.{overfull, unequal}
-use Rattle.rules.specs.File.{Content, full, readFile, readCall, slicesAfter, fill}
-use Rattle.laws.proofs.FileSteps.{refused-given, Reading, done, over, stop, next, file-reading}
+use Rattle.rules.specs.File.{Content, full, readFile, readCall, slicesAfter}
+use Rattle.laws.proofs.FileSteps.{refused-given, Reading, over, stop, next, file-reading}
 use Rattle.laws.proofs.FileGood.{read-sound}
 use Rattle.chart_read.specs.Loaded.{loaded}
 use Rattle.chart_read.specs.Heads.{Counted, countBars, counted, isGiven}
@@ -30,7 +29,9 @@ file-above n bytes k e = above (file-reading n bytes e)
 
 -- ---- what the scan's answer says
 
-counted-refused : (k p : ℕ) (c : Chart) (m : ℕ) (a : AnswerBy NumberAt Content) → (k ≡ 0 → ⊥) → counted k p c m ≡ countBars a → a ≡ refused (record { number = k; place = p })
+counted-refused :
+    (k p : ℕ) (c : Chart) (m : ℕ) (a : AnswerBy NumberAt Content) → (k ≡ 0 → ⊥) → counted k p c m ≡ countBars a
+    → a ≡ refused (record { number = k; place = p })
 unfolding counted countBars
 counted-refused zero p c m a h e = absurd (h refl)
 counted-refused (suc k) p c m (refused j) h e = let z : _≡_ {A = NumberAt} j (record { number = suc k; place = p }) = cc in ap refused z
@@ -88,7 +89,8 @@ module _ (q : Quotes) (bytes : List ℕ) where
   unequal-call h = rw (readCall, ne-eqb (length (q .highs)) (length (q .lows)) h)
 
   pub answer-unequal :
-      (c : Chart) (m : ℕ) → (length (q .highs) ≡ length (q .lows) → ⊥) → (loaded 8 0 c m q ≡ readCall q bytes) × (q ≡ slicesAfter (readCall q bytes) q)
+      (c : Chart) (m : ℕ) → (length (q .highs) ≡ length (q .lows) → ⊥)
+      → (loaded 8 0 c m q ≡ readCall q bytes) × (q ≡ slicesAfter (readCall q bytes) q)
   unfolding loaded slicesAfter
   answer-unequal c m h = rw (unequal-call h) (refl, refl)
 
@@ -110,7 +112,9 @@ module _ (q : Quotes) (bytes : List ℕ) where
         counted-given p c m (readFile (length (q .highs)) bytes) (file-above (length (q .highs)) bytes)
         (ap (λ (j : ℕ). counted j p c m) (sym z) ∙ e)
 
-    pub file-given : (k : ℕ) → k ≡ 0 → counted k p c m ≡ countBars (readFile (length (q .highs)) bytes) → isGiven (readFile (length (q .highs)) bytes) ≡ true
+    pub file-given :
+        (k : ℕ) → k ≡ 0 → counted k p c m ≡ countBars (readFile (length (q .highs)) bytes)
+        → isGiven (readFile (length (q .highs)) bytes) ≡ true
     unfolding isGiven
     file-given k z e = rw (same k z e .is)
 

@@ -1,11 +1,11 @@
 -- The fields of a record as the code reads them, and the record's refusal by the tests. Assumes nothing.
-use Prim.Native.Nat.{ℕ, suc, _+_, _*_, _<_, _≤_}
+use Prim.Native.Nat.{ℕ, suc, _+_, _*_, _≤_}
 use native.Mathlib.Omega.{arith}
 use mathlib.Core.Path.{_≡_, refl, sym, ap, _∙_}
-use mathlib.Core.Bool.{Bool, true, false, cond, not, _&&_}
+use mathlib.Core.Bool.{Bool, true, false, cond, _&&_}
 use mathlib.Core.List.{List, [], _∷_}
 use mathlib.Core.Option.{none, some}
-use lib.ListN.{length, getD, take, drop}
+use lib.ListN.{length, getD}
 use lib.Seq.{drop-cons}
 use lib.Dec.{eqb}
 use lib.Ieee.{Float}
@@ -20,33 +20,14 @@ use Rattle.rules.specs.Text.{ascii}
 use Rattle.rules.specs.Refusals.{refuse, aboveOne, badPrices}
 use Rattle.rules.specs.Answer.{refused, given, answered}
 use Rattle.rules.specs.Lists.{find}
-use Rattle.rules.specs.File.{
-  Kind,
-  ST,
-  SG,
-  BG,
-  SU,
-  BR,
-  markOf,
-  width,
-  isMark,
-  kindOf,
-  stroke,
-  bar,
-  number,
-  price,
-  strokeIn,
-  tripleIn,
-  recordIn,
-  fieldRefusal,
-}
+use Rattle.rules.specs.File.{Kind, ST, SG, BG, SU, BR, markOf, width, isMark, kindOf, stroke, bar, number, price, strokeIn, tripleIn, recordIn, fieldRefusal}
 use Rattle.laws.proofs.Lists.{All}
 use Rattle.laws.proofs.FileBytes.{Byte, price-read}
 use Rattle.chart_read.specs.declared.Level.{Level}
-use Rattle.chart_read.specs.declared.Level.the-variants as level
 use Rattle.chart_read.specs.declared.Mark.{Mark}
-use Rattle.chart_read.specs.declared.Mark.the-variants as mark
 use Rattle.chart_read.specs.Heads.{levelKind, kindBy, tripleBy, checked}
+use Rattle.chart_read.specs.declared.Level.the-variants as level
+use Rattle.chart_read.specs.declared.Mark.the-variants as mark
 
 -- ---- the marks
 

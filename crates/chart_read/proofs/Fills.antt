@@ -1,17 +1,17 @@
 -- The bars of an accepted file, put into the lent slices one after the other. Assumes nothing.
-use Prim.Native.Nat.{ℕ, zero, suc, _+_, _-_, _<_, _≤_}
+use Prim.Native.Nat.{ℕ, suc, _+_, _-_, _<_, _≤_}
 use native.Mathlib.Omega.{arith}
 use mathlib.Core.Path.{_≡_, refl, sym, ap, _∙_}
-use mathlib.Core.Bool.{Bool, true, false, true≢false, false≢true}
-use mathlib.Core.List.{List, [], _∷_, _++_}
+use mathlib.Core.Bool.{Bool, true, false, false≢true}
+use mathlib.Core.List.{List, [], _∷_}
 use mathlib.Core.Option.{Option, none, some}
 use lib.ListN.{length, take, drop, set, length-set}
-use lib.Dec.{leb, ltb}
+use lib.Dec.{ltb}
 use lib.Ieee.{Float}
 use borrow.Author.Tests.{leb-false}
+use Rattle.chart.specs.declared.Stroke.{Stroke}
 use Rattle.chart.specs.declared.Triple.{Triple}
-use Rattle.rules.specs.Answer.{AnswerBy, Answer, NumberAt, refused, given, answered}
-use Rattle.rules.specs.Records.{Quotes}
+use Rattle.rules.specs.Answer.{Answer, NumberAt, refused, given, answered}
 use Rattle.rules.specs.Refusals.{refuse}
 use Rattle.rules.specs.File.{
   Kind,
@@ -47,8 +47,8 @@ use Rattle.laws.proofs.FileCode.{fill-one}
 use Rattle.chart_read.specs.declared.Counts.{Counts}
 use Rattle.chart_read.specs.declared.Head.{Head}
 use Rattle.chart_read.specs.declared.Level.{Level}
-use Rattle.chart_read.specs.declared.Level.the-variants as level
 use Rattle.chart_read.specs.Heads.{tripleBy, answerOf, fullBy, isGiven}
+use Rattle.chart_read.specs.declared.Level.the-variants as level
 use Rattle.chart_read.proofs.Heads.{part}
 use Rattle.chart_read.proofs.Scans.{same-full}
 
@@ -90,9 +90,9 @@ none-full BR = refl
 
 -- ---- what is reached at a place: the bars so far are in the first places
 
-pub record Filling (n : ℕ) (bytes : List ℕ) (highs₀ lows₀ highs lows : List Float) (bars at : ℕ) : Type 0 where
+pub record Filling (bytes : List ℕ) (highs₀ lows₀ highs lows : List Float) (bars at : ℕ) : Type 0 where
   pub content : Content
-  pub left : readFrom n at content 0 (drop at bytes) ≡ readFile n bytes
+  pub left : readFrom (length highs₀) at content 0 (drop at bytes) ≡ readFile (length highs₀) bytes
   pub high-many : length (content .bars .highs) ≡ bars
   pub low-many : length (content .bars .lows) ≡ bars
   pub high-size : length highs ≡ length highs₀
@@ -100,116 +100,115 @@ pub record Filling (n : ℕ) (bytes : List ℕ) (highs₀ lows₀ highs lows : L
   pub high-are : highs ≡ fill (content .bars .highs) highs₀
   pub low-are : lows ≡ fill (content .bars .lows) lows₀
 
-pub filling-begins : (n : ℕ) (bytes : List ℕ) (highs lows : List Float) → Filling n bytes highs lows highs lows 0 0
+pub filling-begins : (bytes : List ℕ) (highs lows : List Float) → Filling bytes highs lows highs lows 0 0
 unfolding readFile nothing
-filling-begins n bytes highs lows =
+filling-begins bytes highs lows =
     record { content = nothing; left = refl; high-many = refl; low-many = refl; high-size = refl; low-size = refl; high-are = refl; low-are = refl }
 
--- the slices behind a record
-abbrev pub highsAfter : Record → ℕ → List Float → List Float
-highsAfter (stroke s) k xs = xs
-highsAfter (segment t) k xs = xs
-highsAfter (big t) k xs = xs
-highsAfter (superior t) k xs = xs
-highsAfter (bar h l) k xs = set xs k h
-
-abbrev pub lowsAfter : Record → ℕ → List Float → List Float
-lowsAfter (stroke s) k xs = xs
-lowsAfter (segment t) k xs = xs
-lowsAfter (big t) k xs = xs
-lowsAfter (superior t) k xs = xs
-lowsAfter (bar h l) k xs = set xs k l
-
-abbrev pub filledAfter : Record → ℕ → ℕ
-filledAfter (stroke s) k = k
-filledAfter (segment t) k = k
-filledAfter (big t) k = k
-filledAfter (superior t) k = k
-filledAfter (bar h l) k = k + 1
+-- a turn, where o is the record at the place, or its refusal
+pub record Turn (bytes : List ℕ) (highs₀ lows₀ highs lows : List Float) (bars at : ℕ) (o : Head) : Type 0 where
+  pub filling : Filling bytes highs₀ lows₀ highs lows bars at
+  pub accept : isGiven (readFile (length highs₀) bytes) ≡ true
+  pub equal : length highs₀ ≡ length lows₀
+  pub more : at < length bytes
+  pub called : answerOf o ≡ readRecord (fullBy none-yet) (take (length bytes - at) (drop at bytes))
 
 refused-not : (n : ℕ) (bytes : List ℕ) (k : NumberAt) → isGiven (readFile n bytes) ≡ true → readFile n bytes ≡ refused k → ⊥
 unfolding isGiven
 refused-not n bytes k g e = false≢true (sym (ap isGiven e) ∙ g)
 
-module _ (n : ℕ) (bytes : List ℕ) (highs₀ lows₀ highs lows : List Float) (bars at : ℕ) (i : Filling n bytes highs₀ lows₀ highs lows bars at)
-    (accept : isGiven (readFile n bytes) ≡ true) (h : at < length bytes) (o : Head)
-    (called : answerOf o ≡ readRecord (fullBy none-yet) (take (length bytes - at) (drop at bytes))) where
+module _ {bytes : List ℕ} {highs₀ lows₀ highs lows : List Float} {bars at : ℕ} {o : Head} (w : Turn bytes highs₀ lows₀ highs lows bars at o) where
+  fullHere : Kind → Bool
+  fullHere = full (length highs₀) (w .filling .content)
+
   by-never : readRecord never (drop at bytes) ≡ answerOf o
   by-never =
       sym (same-full (fullBy none-yet) never (drop at bytes) none-full)
       ∙ ap (readRecord (fullBy none-yet)) (sym (part bytes at))
-      ∙ sym called
+      ∙ sym (w .called)
 
-  not-refused : (k : ℕ) → readRecord (full n (i .content)) (drop at bytes) ≡ refused k → ⊥
-  not-refused k e = refused-not n bytes _ accept (sym (i .left) ∙ at-refused n at (i .content) bytes k h e)
+  not-refused : (k : ℕ) → readRecord fullHere (drop at bytes) ≡ refused k → ⊥
+  unfolding fullHere
+  not-refused k e =
+      let i = w .filling in
+      refused-not (length highs₀) bytes _ (w .accept) (sym (i .left) ∙ at-refused (length highs₀) at (i .content) bytes k (w .more) e)
 
-  by-content : readRecord (full n (i .content)) (drop at bytes) ≡ answerOf o
-  by-content = go (readRecord (full n (i .content)) (drop at bytes)) refl
+  by-content : readRecord fullHere (drop at bytes) ≡ answerOf o
+  by-content = go (readRecord fullHere (drop at bytes)) refl
     where
-      go : (a : Answer Record) → readRecord (full n (i .content)) (drop at bytes) ≡ a → readRecord (full n (i .content)) (drop at bytes) ≡ answerOf o
+      go : (a : Answer Record) → readRecord fullHere (drop at bytes) ≡ a → readRecord fullHere (drop at bytes) ≡ answerOf o
       go (refused k) e = absurd (not-refused k e)
-      go (given r) e = e ∙ sym (read-never (full n (i .content)) (drop at bytes) r e) ∙ by-never
+      go (given r) e = e ∙ sym (read-never fullHere (drop at bytes) r e) ∙ by-never
 
   pub no-refusal : (k : ℕ) → answerOf o ≡ refused k → ⊥
   no-refusal k e = not-refused k (by-content ∙ e)
 
   -- a bar has a place
-  pub bar-place : (x y : Float) → answerOf o ≡ given (bar x y) → bars < n
-  unfolding full kind
+  pub bar-place : (x y : Float) → answerOf o ≡ given (bar x y) → bars < length highs₀
+  unfolding fullHere full kind
   bar-place x y e =
-      let a = accepted (full n (i .content)) (drop at bytes) (bar x y) (by-content ∙ e) in
-      omega (arith, leb-false n (length (i .content .bars .highs)) (a .place), i .high-many)
+      let i = w .filling in
+      let a = accepted fullHere (drop at bytes) (bar x y) (by-content ∙ e) in
+      omega (arith, leb-false (length highs₀) (length (i .content .bars .highs)) (a .place), i .high-many)
 
-  module _ (size : n ≡ length highs₀) (equal : length highs₀ ≡ length lows₀) where
-    -- a record of another kind changes no bars
-    keeps :
-        (r : Record) → append (i .content) r .bars ≡ i .content .bars → answerOf o ≡ given r → (to : ℕ) → to ≡ at + suc (suc (width (kind r)))
-        → Filling n bytes highs₀ lows₀ highs lows bars to
-    keeps r same e to t =
-        record {
-          content = append (i .content) r;
-          left = rw t (sym (at-given n at (i .content) bytes r (by-content ∙ e)) ∙ i .left);
-          high-many = rw same (i .high-many);
-          low-many = rw same (i .low-many);
-          high-size = i .high-size;
-          low-size = i .low-size;
-          high-are = rw same (i .high-are);
-          low-are = rw same (i .low-are);
-        }
+  reads-on :
+      (r : Record) → answerOf o ≡ given r → (to : ℕ) → to ≡ at + suc (suc (width (kind r)))
+      → readFrom (length highs₀) to (append (w .filling .content) r) 0 (drop to bytes) ≡ readFile (length highs₀) bytes
+  unfolding fullHere
+  reads-on r e to t =
+      let i = w .filling in
+      rw t (sym (at-given (length highs₀) at (i .content) bytes r (by-content ∙ e)) ∙ i .left)
 
-    pub fills :
-        (r : Record) → answerOf o ≡ given r → (to : ℕ) → to ≡ at + suc (suc (width (kind r)))
-        → Filling n bytes highs₀ lows₀ (highsAfter r bars highs) (lowsAfter r bars lows) (filledAfter r bars) to
-    unfolding append
-    fills (stroke s) e to t = keeps (stroke s) refl e to t
-    fills (segment s) e to t = keeps (segment s) refl e to t
-    fills (big s) e to t = keeps (big s) refl e to t
-    fills (superior s) e to t = keeps (superior s) refl e to t
-    fills (bar x y) e to t =
-        let p = bar-place x y e in
-        let hs = i .content .bars .highs in
-        let ls = i .content .bars .lows in
-        record {
-          content = append (i .content) (bar x y);
-          left = rw t (sym (at-given n at (i .content) bytes (bar x y) (by-content ∙ e)) ∙ i .left);
-          high-many = omega (arith, length-snoc hs x, i .high-many);
-          low-many = omega (arith, length-snoc ls y, i .low-many);
-          high-size = length-set highs bars x ∙ i .high-size;
-          low-size = length-set lows bars y ∙ i .low-size;
-          high-are = rw (i .high-are, ← i .high-many) (fill-one hs highs₀ x (omega (arith, i .high-many)));
-          low-are = rw (i .low-are, ← i .low-many) (fill-one ls lows₀ y (omega (arith, i .low-many)));
-        }
+  -- a record of another kind changes no bars
+  keeps :
+      (r : Record) → append (w .filling .content) r .bars ≡ w .filling .content .bars → answerOf o ≡ given r → (to : ℕ)
+      → to ≡ at + suc (suc (width (kind r))) → Filling bytes highs₀ lows₀ highs lows bars to
+  keeps r same e to t =
+      let i = w .filling in
+      record {
+        content = append (i .content) r;
+        left = reads-on r e to t;
+        high-many = rw same (i .high-many);
+        low-many = rw same (i .low-many);
+        high-size = i .high-size;
+        low-size = i .low-size;
+        high-are = rw same (i .high-are);
+        low-are = rw same (i .low-are);
+      }
 
-    pub fills-triple :
-        (l : Level) (t : Triple) → answerOf o ≡ given (tripleBy l t) → Filling n bytes highs₀ lows₀ highs lows bars (at + 7)
-    unfolding width kind
-    fills-triple level.Segment t e = fills (segment t) e (at + 7) refl
-    fills-triple level.Big t e = fills (big t) e (at + 7) refl
-    fills-triple level.Superior t e = fills (superior t) e (at + 7) refl
+  pub fill-stroke : (s : Stroke) → answerOf o ≡ given (stroke s) → Filling bytes highs₀ lows₀ highs lows bars (at + 23)
+  unfolding append width kind
+  fill-stroke s e = keeps (stroke s) refl e (at + 23) refl
+
+  pub fill-triple : (l : Level) (t : Triple) → answerOf o ≡ given (tripleBy l t) → Filling bytes highs₀ lows₀ highs lows bars (at + 7)
+  unfolding append width kind
+  fill-triple level.Segment t e = keeps (segment t) refl e (at + 7) refl
+  fill-triple level.Big t e = keeps (big t) refl e (at + 7) refl
+  fill-triple level.Superior t e = keeps (superior t) refl e (at + 7) refl
+
+  pub fill-bar :
+      (x y : Float) → answerOf o ≡ given (bar x y) → Filling bytes highs₀ lows₀ (set highs bars x) (set lows bars y) (bars + 1) (at + 18)
+  unfolding append width kind
+  fill-bar x y e =
+      let i = w .filling in
+      let p = bar-place x y e in
+      let hs = i .content .bars .highs in
+      let ls = i .content .bars .lows in
+      record {
+        content = append (i .content) (bar x y);
+        left = reads-on (bar x y) e (at + 18) refl;
+        high-many = omega (arith, length-snoc hs x, i .high-many);
+        low-many = omega (arith, length-snoc ls y, i .low-many);
+        high-size = length-set highs bars x ∙ i .high-size;
+        low-size = length-set lows bars y ∙ i .low-size;
+        high-are = rw (i .high-are, ← i .high-many) (fill-one hs highs₀ x (omega (arith, i .high-many)));
+        low-are = rw (i .low-are, ← i .low-many) (fill-one ls lows₀ y (omega (arith, i .low-many, w .equal)));
+      }
 
 -- the end of the file
 pub filled :
-    (n : ℕ) (bytes : List ℕ) (highs₀ lows₀ highs lows : List Float) (bars at : ℕ) → Filling n bytes highs₀ lows₀ highs lows bars at
-    → length bytes ≤ at → record { highs = highs; lows = lows } ≡ slicesAfter (readFile n bytes) (record { highs = highs₀; lows = lows₀ })
+    (bytes : List ℕ) (highs₀ lows₀ highs lows : List Float) (bars at : ℕ) → Filling bytes highs₀ lows₀ highs lows bars at → length bytes ≤ at
+    → record { highs = highs; lows = lows } ≡ slicesAfter (readFile (length highs₀) bytes) (record { highs = highs₀; lows = lows₀ })
 unfolding slicesAfter
-filled n bytes highs₀ lows₀ highs lows bars at i h = rw (← i .left, at-end n at (i .content) bytes h, i .high-are, i .low-are)
+filled bytes highs₀ lows₀ highs lows bars at i h =
+    rw (← i .left, at-end (length highs₀) at (i .content) bytes h, i .high-are, i .low-are)

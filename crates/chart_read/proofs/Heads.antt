@@ -1,23 +1,23 @@
 -- The record at the head of some bytes, by the tests on its mark, its length and its place. Assumes nothing.
-use Prim.Native.Nat.{ℕ, suc, _-_, _<_, _≤_}
+use Prim.Native.Nat.{ℕ, _-_, _<_, _≤_}
 use native.Mathlib.Omega.{arith}
 use mathlib.Core.Path.{_≡_, refl, sym, ap, _∙_}
 use mathlib.Core.Bool.{Bool, true, false}
 use mathlib.Core.List.{List, [], _∷_}
-use mathlib.Core.Option.{none, some}
+use mathlib.Core.Option.{some}
 use lib.ListN.{length, getD, take, drop, length-drop}
 use lib.Seq.{take-all}
 use lib.Dec.{ltb}
 use borrow.Author.Tests.{le-ltb, ltb-true, ltb-false}
 use Rattle.price.specs.Bytes.{ofBytes, readBits}
 use Rattle.rules.specs.Refusals.{refuse}
-use Rattle.rules.specs.Answer.{Answer, refused, given, answered}
+use Rattle.rules.specs.Answer.{Answer, refused}
 use Rattle.rules.specs.File.{Kind, width, kindOf, number, Record, readRecord}
 use Rattle.laws.proofs.FileSteps.{readBehind, record-at, behind-cut, behind-full}
 use Rattle.chart_read.specs.declared.Mark.{Mark}
 use Rattle.chart_read.specs.declared.MarkRead.{MarkRead}
-use Rattle.chart_read.specs.declared.MarkRead.the-variants as read
 use Rattle.chart_read.specs.Heads.{kindBy, markedBy, checked}
+use Rattle.chart_read.specs.declared.MarkRead.the-variants as read
 
 -- the part of a slice from a place on
 pub part : (s : List ℕ) (i : ℕ) → take (length s - i) (drop i s) ≡ drop i s

@@ -1,19 +1,18 @@
 -- A scan of a file's records: what is reached at a place, and one record more. Assumes nothing.
 use Prim.Native.Nat.{ℕ, zero, suc, _+_, _-_, _<_, _≤_}
 use native.Mathlib.Omega.{arith}
-use mathlib.Core.Path.{_≡_, refl, sym, ap, _∙_, subst}
-use mathlib.Core.Bool.{Bool, true, false, cond, _||_}
-use mathlib.Core.List.{List, [], _∷_, _++_}
+use mathlib.Core.Path.{_≡_, refl, sym, ap, _∙_}
+use mathlib.Core.Bool.{Bool, false}
+use mathlib.Core.List.{List, [], _∷_}
 use mathlib.Core.Option.{Option, none, some}
-use lib.ListN.{length, take, drop, set, length-set, length-drop}
+use lib.ListN.{length, take, drop, length-set}
 use lib.Seq.{length-take-le}
-use lib.Dec.{leb, ltb}
 use borrow.Author.Tests.{leb-false, le-ltb}
 use Rattle.chart.specs.declared.Chart.{Chart}
 use Rattle.chart.specs.declared.Triple.{Triple}
-use Rattle.rules.specs.Answer.{AnswerBy, Answer, NumberAt, refused, given, answered}
+use Rattle.rules.specs.Answer.{Answer, refused, given, answered}
 use Rattle.rules.specs.Records.{levelsOf, Quotes}
-use Rattle.rules.specs.Refusals.{refuse, overfull}
+use Rattle.rules.specs.Refusals.{overfull}
 use Rattle.rules.specs.File.{
   Kind,
   ST,
@@ -35,19 +34,18 @@ use Rattle.rules.specs.File.{
   append,
   full,
   recordIn,
-  fieldRefusal,
   readRecord,
   readFrom,
   readFile,
 }
-use Rattle.laws.proofs.Tests.{or-i, length-snoc}
-use Rattle.laws.proofs.FileSteps.{refused-given, readBehind, read-two, Accepted, accepted, at-end, at-refused, at-given}
+use Rattle.laws.proofs.Tests.{length-snoc}
+use Rattle.laws.proofs.FileSteps.{refused-given, readBehind, read-two, accepted, at-end, at-refused, at-given}
 use Rattle.laws.proofs.FileCode.{Room, stored, levels-stored}
 use Rattle.chart_read.specs.declared.Counts.{Counts}
 use Rattle.chart_read.specs.declared.Head.{Head}
-use Rattle.chart_read.specs.declared.Head.the-variants as head
 use Rattle.chart_read.specs.declared.Level.{Level}
-use Rattle.chart_read.specs.Heads.{tripleBy, answerOf, fullBy, Counted, countBars, counted}
+use Rattle.chart_read.specs.Heads.{tripleBy, answerOf, fullBy, countBars, counted}
+use Rattle.chart_read.specs.declared.Head.the-variants as head
 use Rattle.chart_read.proofs.Heads.{part}
 
 -- ---- a test for room that goes by the counts
@@ -193,13 +191,13 @@ module _ (c : Chart) (bars n : ℕ) where
   agree q z e SU = rw (length-take-le (c .«superior_count») (c .superiors) (omega arith))
   agree q z e BR = rw e
 
-  -- one bar more, where the record is one
-  abbrev pub barsAfter : Record → ℕ
-  barsAfter (stroke s) = bars
-  barsAfter (segment t) = bars
-  barsAfter (big t) = bars
-  barsAfter (superior t) = bars
-  barsAfter (bar h l) = bars + 1
+-- one bar more, where the record is one
+abbrev pub barsAfter : ℕ → Record → ℕ
+barsAfter bars (stroke s) = bars
+barsAfter bars (segment t) = bars
+barsAfter bars (big t) = bars
+barsAfter bars (superior t) = bars
+barsAfter bars (bar h l) = bars + 1
 
 -- ---- what is reached at a place: some bars, whose number is known, and what is left to read
 
@@ -209,52 +207,67 @@ pub record Reached (n : ℕ) (bytes : List ℕ) (c : Chart) (bars at : ℕ) : Ty
   pub sized : Sized c
   pub left : readFrom n at (record { levels = levelsOf c; bars = quotes }) 0 (drop at bytes) ≡ readFile n bytes
 
-bars-many : (c : Chart) (bars n : ℕ) (d : Content) (r : Record) → length (d .bars .highs) ≡ bars → length (append d r .bars .highs) ≡ barsAfter c bars n r
+bars-many : (bars : ℕ) (d : Content) (r : Record) → length (d .bars .highs) ≡ bars → length (append d r .bars .highs) ≡ barsAfter bars r
 unfolding append
-bars-many c bars n d (stroke s) e = e
-bars-many c bars n d (segment t) e = e
-bars-many c bars n d (big t) e = e
-bars-many c bars n d (superior t) e = e
-bars-many c bars n d (bar h l) e = omega (arith, length-snoc (d .bars .highs) h)
+bars-many bars d (stroke s) e = e
+bars-many bars d (segment t) e = e
+bars-many bars d (big t) e = e
+bars-many bars d (superior t) e = e
+bars-many bars d (bar h l) e = omega (arith, length-snoc (d .bars .highs) h)
 
-pub begins : (n : ℕ) (bytes : List ℕ) (c : Chart) → Sized c → c .«stroke_count» ≡ 0 → c .«segment_count» ≡ 0 → c .«big_count» ≡ 0 → c .«superior_count» ≡ 0 → Reached n bytes c 0 0
+pub begins :
+    (n : ℕ) (bytes : List ℕ) (c : Chart) → Sized c → c .«stroke_count» ≡ 0 → c .«segment_count» ≡ 0 → c .«big_count» ≡ 0
+    → c .«superior_count» ≡ 0 → Reached n bytes c 0 0
 unfolding levelsOf readFile nothing
 begins n bytes c z s g b u = record { quotes = record { highs = []; lows = [] }; many = refl; sized = z; left = rw (s, g, b, u) }
 
-module _ (n : ℕ) (bytes : List ℕ) (c : Chart) (bars at : ℕ) (i : Reached n bytes c bars at) (h : at < length bytes) (o : Head)
-    (called : answerOf o ≡ readRecord (fullBy (countsOf c bars n)) (take (length bytes - at) (drop at bytes))) where
+-- a turn, where o is the record at the place, or its refusal
+pub record Turn (n : ℕ) (bytes : List ℕ) (c : Chart) (bars at : ℕ) (o : Head) : Type 0 where
+  pub reached : Reached n bytes c bars at
+  pub more : at < length bytes
+  pub called : answerOf o ≡ readRecord (fullBy (countsOf c bars n)) (take (length bytes - at) (drop at bytes))
+
+module _ {n : ℕ} {bytes : List ℕ} {c : Chart} {bars at : ℕ} {o : Head} (w : Turn n bytes c bars at o) where
+  content : Content
+  content = record { levels = levelsOf c; bars = w .reached .quotes }
+
   by-counts : (a : Answer Record) → answerOf o ≡ a → readRecord (fullBy (countsOf c bars n)) (drop at bytes) ≡ a
-  by-counts a e = ap (readRecord (fullBy (countsOf c bars n))) (sym (part bytes at)) ∙ sym called ∙ e
+  by-counts a e = ap (readRecord (fullBy (countsOf c bars n))) (sym (part bytes at)) ∙ sym (w .called) ∙ e
 
-  by-content : (a : Answer Record) → answerOf o ≡ a → readRecord (full n (record { levels = levelsOf c; bars = i .quotes })) (drop at bytes) ≡ a
-  by-content a e = sym (same-full _ _ (drop at bytes) (agree c bars n (i .quotes) (i .sized) (i .many))) ∙ by-counts a e
+  by-content : (a : Answer Record) → answerOf o ≡ a → readRecord (full n content) (drop at bytes) ≡ a
+  unfolding content
+  by-content a e =
+      let i = w .reached in
+      sym (same-full (fullBy (countsOf c bars n)) (full n content) (drop at bytes) (agree c bars n (i .quotes) (i .sized) (i .many))) ∙ by-counts a e
 
-  -- a refusal
+  -- a refusal ends the scan
   pub stops : (k : ℕ) → answerOf o ≡ refused k → (d : Chart) (m : ℕ) → counted k at d m ≡ countBars (readFile n bytes)
-  unfolding countBars counted
+  unfolding countBars counted content
   stops k e d m =
-      let left = sym (at-refused n at _ bytes k h (by-content (refused k) e)) ∙ i .left in
-      number k (refused-above _ (drop at bytes) k (by-counts (refused k) e)) ∙ ap countBars left
+      let left = sym (at-refused n at content bytes k (w .more) (by-content (refused k) e)) ∙ w .reached .left in
+      number k (refused-above (fullBy (countsOf c bars n)) (drop at bytes) k (by-counts (refused k) e)) ∙ ap countBars left
     where
       number : (k : ℕ) → 0 < k → counted k at d m ≡ refused (record { number = k; place = at })
       number zero h = absurd (omega arith)
       number (suc k) h = refl
 
-  -- a record: it has a place
+  -- a record has a place, and is stored there
   pub has-place : (r : Record) → answerOf o ≡ given r → Free c bars n r
-  has-place r e = free c bars n r (accepted _ (drop at bytes) r (by-counts (given r) e) .place)
+  has-place r e = free c bars n r (accepted (fullBy (countsOf c bars n)) (drop at bytes) r (by-counts (given r) e) .place)
 
   pub goes-on :
-      (r : Record) → answerOf o ≡ given r → (to : ℕ) → to ≡ at + suc (suc (width (kind r)))
-      → Reached n bytes (stored c r) (barsAfter c bars n r) to
+      (r : Record) → answerOf o ≡ given r → (to : ℕ) → to ≡ at + suc (suc (width (kind r))) → Reached n bytes (stored c r) (barsAfter bars r) to
+  unfolding content
   goes-on r e to t =
-      let d : Content = record { levels = levelsOf c; bars = i .quotes } in
+      let i = w .reached in
       let f = has-place r e in
       record {
-        quotes = append d r .bars;
-        many = bars-many c bars n d r (i .many);
+        quotes = append content r .bars;
+        many = bars-many bars content r (i .many);
         sized = sized-stored c bars n r (i .sized) f;
-        left = rw (t, levels-stored c (i .quotes) r (room c bars n r (i .sized) f)) (sym (at-given n at d bytes r (by-content (given r) e)) ∙ i .left);
+        left =
+            rw (t, levels-stored c (i .quotes) r (room c bars n r (i .sized) f))
+            (sym (at-given n at content bytes r (by-content (given r) e)) ∙ i .left);
       }
 
 -- a triple of a level that is known
@@ -262,7 +275,9 @@ pub triple-is : (o : Head) (l k : Level) (t : Triple) → o ≡ head.Triple l t 
 triple-is o l k t e f = rw (e, f)
 
 -- the end of the file
-pub ends : (n : ℕ) (bytes : List ℕ) (c : Chart) (bars at : ℕ) → Reached n bytes c bars at → length bytes ≤ at → counted 0 0 c bars ≡ countBars (readFile n bytes)
+pub ends :
+    (n : ℕ) (bytes : List ℕ) (c : Chart) (bars at : ℕ) → Reached n bytes c bars at → length bytes ≤ at
+    → counted 0 0 c bars ≡ countBars (readFile n bytes)
 unfolding counted countBars
 ends n bytes c bars at i h =
     rw (sized-fits c (i .sized), ← i .many) (ap countBars (sym (at-end n at (record { levels = levelsOf c; bars = i .quotes }) bytes h) ∙ i .left))

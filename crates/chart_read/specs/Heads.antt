@@ -12,14 +12,14 @@ use Rattle.rules.specs.Records.{Levels, levelsOf}
 use Rattle.rules.specs.Refusals.{overfull}
 use Rattle.rules.specs.File.{Kind, ST, SG, BG, SU, BR, Record, stroke, segment, big, superior, bar, recordIn, fieldRefusal, Content}
 use Rattle.chart_read.specs.declared.Level.{Level}
-use Rattle.chart_read.specs.declared.Level.the-variants as level
 use Rattle.chart_read.specs.declared.Mark.{Mark}
-use Rattle.chart_read.specs.declared.Mark.the-variants as mark
 use Rattle.chart_read.specs.declared.MarkRead.{MarkRead}
-use Rattle.chart_read.specs.declared.MarkRead.the-variants as read
 use Rattle.chart_read.specs.declared.Head.{Head}
-use Rattle.chart_read.specs.declared.Head.the-variants as head
 use Rattle.chart_read.specs.declared.Counts.{Counts}
+use Rattle.chart_read.specs.declared.Level.the-variants as level
+use Rattle.chart_read.specs.declared.Mark.the-variants as mark
+use Rattle.chart_read.specs.declared.MarkRead.the-variants as read
+use Rattle.chart_read.specs.declared.Head.the-variants as head
 
 -- the kind of a mark
 abbrev pub levelKind : Level → Kind

@@ -1,7 +1,6 @@
 -- The answer that the reader's struct stands for. Assumes nothing.
 use Prim.Native.Nat.{ℕ, zero, suc}
 use mathlib.Core.Bool.{cond, _||_, not}
-use mathlib.Core.List.{List}
 use lib.ListN.{length, take}
 use lib.Dec.{leb}
 use Rattle.chart.specs.declared.Chart.{Chart}

@@ -1,11 +1,11 @@
 -- Bytes that are put into a buffer, and the record of a triple by its mark. Assumes nothing.
 use Prim.Native.Nat.{ℕ}
 use mathlib.Core.List.{List, _∷_, _++_, map}
-use lib.ListN.{length, take, drop}
+use lib.ListN.{take, drop}
 use Rattle.chart.specs.declared.Triple.{Triple}
 use Rattle.rules.specs.Lists.{each}
 use Rattle.rules.specs.Records.{Levels}
-use Rattle.rules.specs.File.{Record, stroke, segment, big, superior, tripleBytes, recordBytes, fill}
+use Rattle.rules.specs.File.{stroke, segment, big, superior, tripleBytes, recordBytes, fill}
 
 -- a buffer with some bytes from place `at` on: those before it and those behind keep their contents
 unfoldable pub putAt : List ℕ → ℕ → List ℕ → List ℕ

@@ -1,18 +1,14 @@
-use Rattle.chart_read.proofs.Heads.{part-bits}
-use Rattle.rules.specs.File.{number}
-use Prim.Native.Nat.{_≤_}
-use lib.ListN.{length}
-use mathlib.Core.Path.{_∙_, sym, ap}
+-- `chart_read::bar_in` meets its contract: each way through the tests is a law. Assumes nothing.
 use native.Mathlib.Omega.{arith}
+use mathlib.Core.Path.{_∙_}
+use borrow.Author.Needs.{needs}
+use Rattle.rules.specs.File.{number}
 use Rattle.laws.proofs.FileBytes.{Byte}
 use Rattle.laws.proofs.Lists.{All, all-getD}
-use Rattle.chart_read.proofs.Fields.{one-at, two-at, is-price, no-price, stroke-direction, stroke-start, stroke-end, stroke-given, triple-direction, triple-given, bar-high, bar-low, bar-given}
-use borrow.Author.Needs.{needs}
+use Rattle.chart_read.proofs.Heads.{part-bits}
+use Rattle.chart_read.proofs.Fields.{is-price, no-price, bar-high, bar-low, bar-given}
 use Rattle.chart_read.proofs.bar_in.Statement.{statement}
 use Rattle.chart_read.proofs.bar_in.Tie as tie
-use Rattle.chart_read.proofs.bar_in.Reads as reads
-use Rattle.chart_read.proofs.bar_in.Lts as lts
-use Rattle.price.proofs.get_price.Reads as get-price-reads
 
 -- every element of the slice is a byte
 bytes : (c : tie.After-shared-slice-known) → All Byte (c .before .args .s .now)
@@ -61,7 +57,8 @@ returns-2 c =
     let called1 = high .before .before in
     let known = called1 .before in
     let s = known .before .args .s .now in
-    bar-low s (is-price s (bytes known) 0 _ (called1 .get-price .ensures) _ (high .high .given .1) .0) (no-price s (bytes known) 8 _ (called .get-price2 .ensures ∙ part-bits s 8) (c .enum-told2 .given .1))
+    bar-low s (is-price s (bytes known) 0 _ (called1 .get-price .ensures) _ (high .high .given .1) .0)
+    (no-price s (bytes known) 8 _ (called .get-price2 .ensures ∙ part-bits s 8) (c .enum-told2 .given .1))
 
 returns-3 : tie.Need-returns-3
 unfolding number
@@ -72,7 +69,8 @@ returns-3 c =
     let called1 = high .before .before in
     let known = called1 .before in
     let s = known .before .args .s .now in
-    bar-given s _ _ (is-price s (bytes known) 0 _ (called1 .get-price .ensures) _ (high .high .given .1)) (is-price s (bytes known) 8 _ (called .get-price2 .ensures ∙ part-bits s 8) _ (low .low .given .1))
+    bar-given s _ _ (is-price s (bytes known) 0 _ (called1 .get-price .ensures) _ (high .high .given .1))
+    (is-price s (bytes known) 8 _ (called .get-price2 .ensures ∙ part-bits s 8) _ (low .low .given .1))
 
 pub bar-in-spec : {M : Type 1} → statement M
 bar-in-spec =

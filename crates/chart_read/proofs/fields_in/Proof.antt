@@ -1,17 +1,13 @@
+-- `chart_read::fields_in` meets its contract: the mark says which function reads. Assumes nothing.
+use native.Mathlib.Omega.{arith}
+use mathlib.Core.Path.{ap}
+use borrow.Author.Needs.{needs}
+use Rattle.rules.specs.File.{width}
 use Rattle.chart_read.specs.declared.Mark.{Mark}
 use Rattle.chart_read.specs.Heads.{kindBy}
-use Rattle.rules.specs.File.{width}
-use mathlib.Core.Path.{ap}
-use native.Mathlib.Omega.{arith}
 use Rattle.chart_read.proofs.Fields.{level-width}
-use borrow.Author.Needs.{needs}
 use Rattle.chart_read.proofs.fields_in.Statement.{statement}
 use Rattle.chart_read.proofs.fields_in.Tie as tie
-use Rattle.chart_read.proofs.fields_in.Reads as reads
-use Rattle.chart_read.proofs.fields_in.Lts as lts
-use Rattle.chart_read.proofs.bar_in.Reads as bar-in-reads
-use Rattle.chart_read.proofs.stroke_in.Reads as stroke-in-reads
-use Rattle.chart_read.proofs.triple_in.Reads as triple-in-reads
 
 enum-told : tie.Need-enum-told
 enum-told c = search needs

@@ -1,14 +1,9 @@
+-- `chart_read::head_of` meets its contract: each way through the tests is a law. Assumes nothing.
 use mathlib.Core.Path.{sym, _∙_}
-use Rattle.chart_read.proofs.Heads.{head-short, head-unknown, head-cut, head-long, head-full, head-fields}
 use borrow.Author.Needs.{needs}
+use Rattle.chart_read.proofs.Heads.{head-short, head-unknown, head-cut, head-long, head-full, head-fields}
 use Rattle.chart_read.proofs.head_of.Statement.{statement}
 use Rattle.chart_read.proofs.head_of.Tie as tie
-use Rattle.chart_read.proofs.head_of.Reads as reads
-use Rattle.chart_read.proofs.head_of.Lts as lts
-use Rattle.chart_read.proofs.fields_in.Reads as fields-in-reads
-use Rattle.chart_read.proofs.is_full.Reads as is-full-reads
-use Rattle.chart_read.proofs.mark_of.Reads as mark-of-reads
-use Rattle.chart_read.proofs.width_of.Reads as width-of-reads
 
 returns : tie.Need-returns
 returns c = head-short _ _ (c .if1 .taken)
@@ -58,7 +53,8 @@ returns-4 c =
     let mark = wide .before .before in
     let called = mark .before .before in
     let test = called .before .before .before in
-    head-full _ _ (test .if1 .left) _ (called .mark-of .ensures) _ (mark .m .given .1) _ (wide .width-of .ensures) (c .before .if2 .left) (sym (full .is-full .ensures) ∙ c .if3 .taken)
+    head-full _ _ (test .if1 .left) _ (called .mark-of .ensures) _ (mark .m .given .1) _ (wide .width-of .ensures) (c .before .if2 .left)
+    (sym (full .is-full .ensures) ∙ c .if3 .taken)
 
 sub-fields-in : tie.Need-sub-fields-in
 sub-fields-in c = search needs
@@ -84,7 +80,8 @@ returns-5 c =
     let mark = wide .before .before in
     let called = mark .before .before in
     let test = called .before .before .before in
-    head-fields _ _ (test .if1 .left) _ (called .mark-of .ensures) _ (mark .m .given .1) _ (wide .width-of .ensures) _ (room .before .if2 .left) (sym (full .is-full .ensures) ∙ room .if3 .left)
+    head-fields _ _ (test .if1 .left) _ (called .mark-of .ensures) _ (mark .m .given .1) _ (wide .width-of .ensures) _ (room .before .if2 .left)
+    (sym (full .is-full .ensures) ∙ room .if3 .left)
     (c .fields-in .ensures)
 
 pub head-of-spec : {M : Type 1} → statement M

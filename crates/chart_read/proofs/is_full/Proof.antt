@@ -1,10 +1,8 @@
-use Rattle.chart_read.specs.Heads.{fullBy}
+-- `chart_read::is_full` meets its contract. Assumes nothing.
 use borrow.Author.Needs.{needs}
+use Rattle.chart_read.specs.Heads.{fullBy}
 use Rattle.chart_read.proofs.is_full.Statement.{statement}
 use Rattle.chart_read.proofs.is_full.Tie as tie
-use Rattle.chart_read.proofs.is_full.Reads as reads
-use Rattle.chart_read.proofs.is_full.Lts as lts
-use Rattle.chart_read.proofs.level_full.Reads as level-full-reads
 
 enum-told : tie.Need-enum-told
 enum-told c = search needs

@@ -1,9 +1,8 @@
-use Rattle.chart_read.specs.Heads.{fullBy}
+-- `chart_read::level_full` meets its contract. Assumes nothing.
 use borrow.Author.Needs.{needs}
+use Rattle.chart_read.specs.Heads.{fullBy}
 use Rattle.chart_read.proofs.level_full.Statement.{statement}
 use Rattle.chart_read.proofs.level_full.Tie as tie
-use Rattle.chart_read.proofs.level_full.Reads as reads
-use Rattle.chart_read.proofs.level_full.Lts as lts
 
 enum-told : tie.Need-enum-told
 enum-told c = search needs

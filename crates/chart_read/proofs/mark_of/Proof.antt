@@ -1,8 +1,7 @@
+-- `chart_read::mark_of` meets its contract: each way through the tests is a law. Assumes nothing.
 use Rattle.chart_read.proofs.Fields.{mark-bar, mark-big, mark-no-b, mark-stroke, mark-segment, mark-superior, mark-no-s, mark-none}
 use Rattle.chart_read.proofs.mark_of.Statement.{statement}
 use Rattle.chart_read.proofs.mark_of.Tie as tie
-use Rattle.chart_read.proofs.mark_of.Reads as reads
-use Rattle.chart_read.proofs.mark_of.Lts as lts
 
 returns : tie.Need-returns
 returns c = mark-bar _ _ (c .before .if1 .taken) (c .if2 .taken)

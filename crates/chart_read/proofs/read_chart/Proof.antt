@@ -1,13 +1,9 @@
-use Rattle.chart_read.proofs.Calls.{answer-unequal, answer-refused, file-given, answer-given}
-use Rattle.rules.specs.Records.{Quotes}
+-- `chart_read::read_chart` meets its contract: 8, then the scan, then the bars. Assumes nothing.
 use borrow.Author.Needs.{needs}
+use Rattle.rules.specs.Records.{Quotes}
+use Rattle.chart_read.proofs.Calls.{answer-unequal, answer-refused, file-given, answer-given}
 use Rattle.chart_read.proofs.read_chart.Statement.{statement}
 use Rattle.chart_read.proofs.read_chart.Tie as tie
-use Rattle.chart_read.proofs.read_chart.Reads as reads
-use Rattle.chart_read.proofs.read_chart.Lts as lts
-use Rattle.chart_read.proofs.fill_bars.Reads as fill-bars-reads
-use Rattle.chart_read.proofs.no_chart.Reads as no-chart-reads
-use Rattle.chart_read.proofs.scan.Reads as scan-reads
 
 abbrev start : tie.After-scan → tie.Start
 start c = c .before .before .before .before .before

@@ -1,24 +1,18 @@
-use Rattle.chart_read.specs.declared.Level.the-variants as level
-use Rattle.chart_read.proofs.Scans.{barsAfter}
-use Rattle.rules.specs.File.{Record}
-use Rattle.rules.specs.Answer.{given}
-use Rattle.laws.proofs.FileCode.{stored}
-use Rattle.laws.proofs.Arrays.{length-via}
-use Prim.Native.Nat.{ℕ, suc, _+_}
-use Rattle.chart_read.proofs.Scans.{Sized, Free, Reached, begins, stops, has-place, goes-on, triple-is, ends}
-use Rattle.chart_read.specs.Heads.{answerOf}
-use Rattle.rules.specs.File.{kind, width, stroke, segment, big, superior, bar}
-use Prim.Native.Nat.{_-_, _≤_, _<_}
-use lib.ListN.{length}
-use mathlib.Core.Path.{_≡_, refl, sym, ap, _∙_}
+-- `chart_read::scan` meets its contract. The invariant: what is left to read, behind the chart so far and as many bars as are counted. Assumes nothing.
+use Prim.Native.Nat.{_-_}
 use native.Mathlib.Omega.{arith}
+use mathlib.Core.Path.{_≡_, refl, ap}
+use lib.ListN.{length}
 use borrow.Author.Needs.{needs}
+use Rattle.chart.specs.declared.Triple.{Triple}
+use Rattle.rules.specs.File.{kind, width, stroke, segment, big, superior}
+use Rattle.rules.specs.Answer.{given}
+use Rattle.laws.proofs.Arrays.{length-via}
+use Rattle.chart_read.specs.Heads.{answerOf}
+use Rattle.chart_read.specs.declared.Level.the-variants as level
+use Rattle.chart_read.proofs.Scans.{Sized, Reached, begins, Turn, stops, has-place, goes-on, triple-is, ends}
 use Rattle.chart_read.proofs.scan.Statement.{statement}
 use Rattle.chart_read.proofs.scan.Tie as tie
-use Rattle.chart_read.proofs.scan.Reads as reads
-use Rattle.chart_read.proofs.scan.Lts as lts
-use Rattle.chart_read.proofs.head_of.Reads as head-of-reads
-use Rattle.chart_read.proofs.no_chart.Reads as no-chart-reads
 
 abbrev Inv-loop : tie.InvT-loop
 Inv-loop bytes places chart₀ bars₀ at₀ chart bars at = Reached places bytes chart bars at
@@ -45,29 +39,34 @@ at-loop c = c .before .before .before
 abbrev start : tie.After-head-of Inv-loop μ-loop → tie.Start Inv-loop μ-loop
 start c = at-loop c .before .before .before
 
--- the record that is read has a place
-place-of :
-    (c : tie.After-head-of Inv-loop μ-loop) (r : Record) → answerOf (c .head-of .result) ≡ given r
-    → Free (at-loop c .loop .chart) (at-loop c .loop .bars) (start c .args .places) r
-place-of c r e = has-place _ _ _ _ _ (at-loop c .loop .inv) (c .before .before .loop-test .taken) (c .head-of .result) (c .head-of .ensures) r e
+turn :
+    (c : tie.After-head-of Inv-loop μ-loop)
+    → Turn (start c .args .places) (start c .args .bytes .now) (at-loop c .loop .chart) (at-loop c .loop .bars) (at-loop c .loop .at)
+    (c .head-of .result)
+turn c = record { reached = at-loop c .loop .inv; more = c .before .before .loop-test .taken; called = c .head-of .ensures }
 
--- and it is stored there
-again :
-    (c : tie.After-head-of Inv-loop μ-loop) (r : Record) → answerOf (c .head-of .result) ≡ given r → (to : ℕ)
-    → to ≡ at-loop c .loop .at + suc (suc (width (kind r)))
-    → Reached (start c .args .places) (start c .args .bytes .now) (stored (at-loop c .loop .chart) r) (barsAfter (at-loop c .loop .chart) (at-loop c .loop .bars) (start c .args .places) r) to
-again c r e to t = goes-on _ _ _ _ _ (at-loop c .loop .inv) (c .before .before .loop-test .taken) (c .head-of .result) (c .head-of .ensures) r e to t
+-- the record that is read, in each arm
+abbrev arm : tie.After-known-told3 Inv-loop μ-loop → tie.After-head-of Inv-loop μ-loop
+arm c = c .before .before .before
 
-stroke-read : (c : tie.After-known-told2 Inv-loop μ-loop) → answerOf (c .before .before .before .head-of .result) ≡ given (stroke (c .before .head2 .given .0 .0))
+abbrev triple : tie.After-known-told3 Inv-loop μ-loop → Triple
+triple c = c .before .head3 .given .0 .1 .0
+
+stroke-read :
+    (c : tie.After-known-told2 Inv-loop μ-loop)
+    → answerOf (c .before .before .before .head-of .result) ≡ given (stroke (c .before .head2 .given .0 .0))
 stroke-read c = ap answerOf (c .before .head2 .given .1)
 
-segment-read : (c : tie.After-enum-told Inv-loop μ-loop) → answerOf (c .before .before .before .before .before .head-of .result) ≡ given (segment (c .before .before .before .head3 .given .0 .1 .0))
+segment-read :
+    (c : tie.After-enum-told Inv-loop μ-loop) → answerOf (arm (c .before .before) .head-of .result) ≡ given (segment (triple (c .before .before)))
 segment-read c = triple-is _ _ level.Segment _ (c .before .before .before .head3 .given .1) (c .enum-told .given .1)
 
-big-read : (c : tie.After-enum-told2 Inv-loop μ-loop) → answerOf (c .before .before .before .before .before .head-of .result) ≡ given (big (c .before .before .before .head3 .given .0 .1 .0))
+big-read :
+    (c : tie.After-enum-told2 Inv-loop μ-loop) → answerOf (arm (c .before .before) .head-of .result) ≡ given (big (triple (c .before .before)))
 big-read c = triple-is _ _ level.Big _ (c .before .before .before .head3 .given .1) (c .enum-told2 .given .1)
 
-superior-read : (c : tie.After-enum-told3 Inv-loop μ-loop) → answerOf (c .before .before .before .before .before .head-of .result) ≡ given (superior (c .before .before .before .head3 .given .0 .1 .0))
+superior-read :
+    (c : tie.After-enum-told3 Inv-loop μ-loop) → answerOf (arm (c .before .before) .head-of .result) ≡ given (superior (triple (c .before .before)))
 superior-read c = triple-is _ _ level.Superior _ (c .before .before .before .head3 .given .1) (c .enum-told3 .given .1)
 
 no-chart-requires : tie.Need-no-chart-requires Inv-loop μ-loop
@@ -97,8 +96,7 @@ refusal-requires c κs = search needs
 returns : tie.Need-returns Inv-loop μ-loop
 returns c =
     let read = c .before .before .before .before in
-    rw (c .refusal .ensures .0, c .refusal .ensures .1)
-    (stops _ _ _ _ _ (at-loop read .loop .inv) (read .before .before .loop-test .taken) (read .head-of .result) (read .head-of .ensures) _ (ap answerOf (c .before .before .head .given .1)) _ _)
+    rw (c .refusal .ensures .0, c .refusal .ensures .1) (stops (turn read) _ (ap answerOf (c .before .before .head .given .1)) _ _)
 
 enum-known-head-2 : tie.Need-enum-known-head-2 Inv-loop μ-loop
 enum-known-head-2 c = search needs
@@ -110,7 +108,7 @@ mul-s : tie.Need-mul-s Inv-loop μ-loop
 mul-s c = search needs
 
 element-set-from-s : tie.Need-element-set-from-s Inv-loop μ-loop
-element-set-from-s c = omega (arith, place-of (c .before .before .before) _ (stroke-read c))
+element-set-from-s c = omega (arith, has-place (turn (c .before .before .before)) _ (stroke-read c))
 
 add-chart : tie.Need-add-chart Inv-loop μ-loop
 add-chart c = search needs
@@ -123,7 +121,7 @@ loop-less c = search needs
 
 loop-again : tie.Need-loop-again Inv-loop μ-loop
 unfolding width kind
-loop-again c = again (c .before .before .before) _ (stroke-read c) _ refl
+loop-again c = goes-on (turn (c .before .before .before)) _ (stroke-read c) _ refl
 
 enum-known-head-3 : tie.Need-enum-known-head-3 Inv-loop μ-loop
 enum-known-head-3 c = search needs
@@ -141,7 +139,7 @@ mul-t : tie.Need-mul-t Inv-loop μ-loop
 mul-t c = search needs
 
 element-set-from-t : tie.Need-element-set-from-t Inv-loop μ-loop
-element-set-from-t c = omega (arith, place-of (c .before .before .before .before .before) _ (segment-read c))
+element-set-from-t c = omega (arith, has-place (turn (arm (c .before .before))) _ (segment-read c))
 
 add-chart-2 : tie.Need-add-chart-2 Inv-loop μ-loop
 add-chart-2 c = search needs
@@ -151,7 +149,7 @@ loop-less-2 c = search needs
 
 loop-again-2 : tie.Need-loop-again-2 Inv-loop μ-loop
 unfolding width kind
-loop-again-2 c = again (c .before .before .before .before .before) _ (segment-read c) _ refl
+loop-again-2 c = goes-on (turn (arm (c .before .before))) _ (segment-read c) _ refl
 
 enum-told-2 : tie.Need-enum-told-2 Inv-loop μ-loop
 enum-told-2 c = search needs
@@ -163,7 +161,7 @@ mul-t-2 : tie.Need-mul-t-2 Inv-loop μ-loop
 mul-t-2 c = search needs
 
 element-set-from-t-2 : tie.Need-element-set-from-t-2 Inv-loop μ-loop
-element-set-from-t-2 c = omega (arith, place-of (c .before .before .before .before .before) _ (big-read c))
+element-set-from-t-2 c = omega (arith, has-place (turn (arm (c .before .before))) _ (big-read c))
 
 add-chart-3 : tie.Need-add-chart-3 Inv-loop μ-loop
 add-chart-3 c = search needs
@@ -173,7 +171,7 @@ loop-less-3 c = search needs
 
 loop-again-3 : tie.Need-loop-again-3 Inv-loop μ-loop
 unfolding width kind
-loop-again-3 c = again (c .before .before .before .before .before) _ (big-read c) _ refl
+loop-again-3 c = goes-on (turn (arm (c .before .before))) _ (big-read c) _ refl
 
 enum-told-3 : tie.Need-enum-told-3 Inv-loop μ-loop
 enum-told-3 c = search needs
@@ -185,7 +183,7 @@ mul-t-3 : tie.Need-mul-t-3 Inv-loop μ-loop
 mul-t-3 c = search needs
 
 element-set-from-t-3 : tie.Need-element-set-from-t-3 Inv-loop μ-loop
-element-set-from-t-3 c = omega (arith, place-of (c .before .before .before .before .before) _ (superior-read c))
+element-set-from-t-3 c = omega (arith, has-place (turn (arm (c .before .before))) _ (superior-read c))
 
 add-chart-4 : tie.Need-add-chart-4 Inv-loop μ-loop
 add-chart-4 c = search needs
@@ -195,13 +193,13 @@ loop-less-4 c = search needs
 
 loop-again-4 : tie.Need-loop-again-4 Inv-loop μ-loop
 unfolding width kind
-loop-again-4 c = again (c .before .before .before .before .before) _ (superior-read c) _ refl
+loop-again-4 c = goes-on (turn (arm (c .before .before))) _ (superior-read c) _ refl
 
 enum-told-4 : tie.Need-enum-told-4 Inv-loop μ-loop
 enum-told-4 c = search needs
 
 add-bars : tie.Need-add-bars Inv-loop μ-loop
-add-bars c = record { fits = omega (arith, place-of (c .before .before) _ (ap answerOf (c .enum-told4 .given .1))) }
+add-bars c = record { fits = omega (arith, has-place (turn (c .before .before)) _ (ap answerOf (c .enum-told4 .given .1))) }
 
 add-at-3 : tie.Need-add-at-3 Inv-loop μ-loop
 add-at-3 c = search needs
@@ -211,7 +209,7 @@ loop-less-5 c = search needs
 
 loop-again-5 : tie.Need-loop-again-5 Inv-loop μ-loop
 unfolding width kind
-loop-again-5 c = again (c .before .before) _ (ap answerOf (c .enum-told4 .given .1)) _ refl
+loop-again-5 c = goes-on (turn (c .before .before)) _ (ap answerOf (c .enum-told4 .given .1)) _ refl
 
 returns-2 : tie.Need-returns-2 Inv-loop μ-loop
 returns-2 c = ends _ _ _ _ _ (c .before .loop .inv) (c .loop-test .left)

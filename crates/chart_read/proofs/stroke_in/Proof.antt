@@ -1,18 +1,13 @@
-use lib.ListN.{length}
-use mathlib.Core.Path.{_∙_}
+-- `chart_read::stroke_in` meets its contract: each way through the tests is a law. Assumes nothing.
 use native.Mathlib.Omega.{arith}
+use mathlib.Core.Path.{_∙_}
+use borrow.Author.Needs.{needs}
 use Rattle.laws.proofs.FileBytes.{Byte}
 use Rattle.laws.proofs.Lists.{All, all-getD}
 use Rattle.chart_read.proofs.Heads.{part-bits}
 use Rattle.chart_read.proofs.Fields.{is-price, no-price, stroke-direction, stroke-start, stroke-end, stroke-given}
-use borrow.Author.Needs.{needs}
 use Rattle.chart_read.proofs.stroke_in.Statement.{statement}
 use Rattle.chart_read.proofs.stroke_in.Tie as tie
-use Rattle.chart_read.proofs.stroke_in.Reads as reads
-use Rattle.chart_read.proofs.stroke_in.Lts as lts
-use Rattle.chart_read.proofs.triple_at.Reads as triple-at-reads
-use Rattle.chart_read.proofs.wrong_direction.Reads as wrong-direction-reads
-use Rattle.price.proofs.get_price.Reads as get-price-reads
 
 -- every element of the slice is a byte
 bytes : (c : tie.After-shared-slice-known) → All Byte (c .before .args .s .now)

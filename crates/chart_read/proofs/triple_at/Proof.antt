@@ -1,10 +1,8 @@
-use Rattle.chart_read.proofs.Fields.{triple-read}
+-- `chart_read::triple_at` meets its contract. Assumes nothing.
 use borrow.Author.Needs.{needs}
+use Rattle.chart_read.proofs.Fields.{triple-read}
 use Rattle.chart_read.proofs.triple_at.Statement.{statement}
 use Rattle.chart_read.proofs.triple_at.Tie as tie
-use Rattle.chart_read.proofs.triple_at.Reads as reads
-use Rattle.chart_read.proofs.triple_at.Lts as lts
-use Rattle.chart_read.proofs.two_of.Reads as two-of-reads
 
 shared-slice-read-t3 : tie.Need-shared-slice-read-t3
 shared-slice-read-t3 c = search needs

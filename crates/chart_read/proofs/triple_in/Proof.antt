@@ -1,11 +1,8 @@
-use Rattle.chart_read.proofs.Fields.{triple-direction, triple-given}
+-- `chart_read::triple_in` meets its contract. Assumes nothing.
 use borrow.Author.Needs.{needs}
+use Rattle.chart_read.proofs.Fields.{triple-direction, triple-given}
 use Rattle.chart_read.proofs.triple_in.Statement.{statement}
 use Rattle.chart_read.proofs.triple_in.Tie as tie
-use Rattle.chart_read.proofs.triple_in.Reads as reads
-use Rattle.chart_read.proofs.triple_in.Lts as lts
-use Rattle.chart_read.proofs.triple_at.Reads as triple-at-reads
-use Rattle.chart_read.proofs.wrong_direction.Reads as wrong-direction-reads
 
 triple-at-requires : tie.Need-triple-at-requires
 triple-at-requires c κs = search needs

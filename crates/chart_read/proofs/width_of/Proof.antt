@@ -1,10 +1,9 @@
-use Rattle.chart_read.proofs.Fields.{level-width}
-use Rattle.rules.specs.File.{width}
+-- `chart_read::width_of` meets its contract. Assumes nothing.
 use borrow.Author.Needs.{needs}
+use Rattle.rules.specs.File.{width}
+use Rattle.chart_read.proofs.Fields.{level-width}
 use Rattle.chart_read.proofs.width_of.Statement.{statement}
 use Rattle.chart_read.proofs.width_of.Tie as tie
-use Rattle.chart_read.proofs.width_of.Reads as reads
-use Rattle.chart_read.proofs.width_of.Lts as lts
 
 enum-told : tie.Need-enum-told
 enum-told c = search needs

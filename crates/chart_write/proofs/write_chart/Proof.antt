@@ -57,8 +57,8 @@ returns-2 c =
     let done = c .before .before .before .before .before .before in
     let go = done .before .before in
     let r =
-      given-call _ _ _ _ _ _ (go .if1 .left) (go .before .refusal .ensures)
-      (stage-next (bars-put done) _ (allowed go .room) (c .before .before .put-levels .ensures)) in
+    given-call _ _ _ _ _ _ (go .if1 .left) (go .before .refusal .ensures)
+    (stage-next (bars-put done) _ (allowed go .room) (c .before .before .put-levels .ensures)) in
     (r .0, (r .1, λ h. absurd (h refl)))
 
 pub write-chart-spec : {M : Type 1} → statement M

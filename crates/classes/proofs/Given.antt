@@ -1,0 +1,84 @@
+-- The classes of items as rows, and the end of both calls. Assumes nothing.
+use Prim.Native.Nat.{ℕ, _<_, _≤_}
+use native.Mathlib.Omega.{arith}
+use mathlib.Core.Path.{_≡_, refl, sym, _∙_}
+use mathlib.Core.Bool.{Bool, true, false}
+use mathlib.Core.List.{List, []}
+use mathlib.Core.Option.{Option, none}
+use lib.ListN.{length, take}
+use lib.Dec.{eqb}
+use borrow.Author.Tests.{le-ltb, lt-ltb}
+use Rattle.chart.specs.declared.Class.{Class}
+use Rattle.chart.specs.declared.Triple.{Triple}
+use Rattle.rules.specs.Answer.{Answer, rowsAnswer, refused, given, answered}
+use Rattle.rules.specs.Lists.{collect}
+use Rattle.rules.specs.Refusals.{refuse, aboveOne, lacks, segmentClassesRefusal, bigClassesRefusal, badChart}
+use Rattle.chart.specs.declared.Chart.{Chart}
+use Rattle.rules.specs.Records.{levelsOf}
+use Rattle.rules.specs.Calls.{segmentClassesCall, bigClassesCall}
+use Rattle.rules.specs.Classes.{Item, segmentItem, bigItem, walk, extendAll, classes, segmentClasses, bigClasses}
+use Rattle.laws.proofs.Answers.{given-rows, on-bad, on-good}
+use Rattle.laws.proofs.Lists.{collect-length}
+use Rattle.classes.specs.declared.Item as struct
+use Rattle.classes.specs.declared.Rows.{Rows}
+use Rattle.classes.specs.Items.{itemsOf, Holds, Gathers}
+use Rattle.classes.proofs.Items.{items-length}
+
+pub classes-given :
+    (on : Bool) (n : ℕ) (xs : List struct.Item) (found all : Rows) → 1 < n → n ≤ length xs
+    → Holds found (walk on (itemsOf n xs) none 0 0 (itemsOf n xs))
+    → Holds all (extendAll (itemsOf n xs) (take (found .count) (found .rows))) → length (all .rows) ≡ 256
+    → rowsAnswer 0 (all .count) (all .rows) ≡ given (classes on (itemsOf n xs))
+unfolding classes
+classes-given on n xs found all more few w e long =
+    let two : 2 ≤ length (itemsOf n xs) = omega (arith, items-length n 0 xs few) in
+    given-rows (all .rows) (all .count) (omega (arith, e .few))
+    ∙ (rw (e .are, w .are, le-ltb (length (itemsOf n xs)) 2 two))
+
+-- ---- one way through the end of a call each, its answer being a
+module _ (f : Triple → Option Item) (ts : List Triple) (byte n : ℕ) (size : length ts ≡ n) (a : Answer (List Class)) where
+  abbrev ended : Answer (List Class)
+  ended = answered (refuse (aboveOne byte) 2 (refuse (lacks f ts) 10 0)) (classes (eqb byte 1) (collect f ts))
+
+  pub ends-byte : 1 < byte → a ≡ refused 2 → a ≡ ended
+  unfolding answered refuse
+  ends-byte h e = rw (lt-ltb 1 byte h, e)
+
+  module _ (low : byte ≤ 1) where
+    pub ends-few : n < 2 → a ≡ given [] → a ≡ ended
+    unfolding answered refuse lacks classes
+    ends-few h e =
+        let one : length ts ≤ 1 = omega arith in
+        let few : length (collect f ts) < 2 = omega (arith, collect-length f ts) in
+        rw (le-ltb 1 byte low, le-ltb 1 (length ts) one, lt-ltb (length (collect f ts)) 2 few, e)
+
+    module _ (two : 2 ≤ n) (lacking : Bool) (got : List Item) (g : Gathers f ts lacking got) where
+      lacks-as : lacks f ts ≡ lacking
+      unfolding lacks
+      lacks-as = let more : 1 < length ts = omega arith in rw (lt-ltb 1 (length ts) more, g .lack)
+
+      pub ends-lacking : lacking ≡ true → a ≡ refused 10 → a ≡ ended
+      unfolding answered refuse
+      ends-lacking t e = rw (le-ltb 1 byte low, lacks-as, t, e)
+
+      pub ends-all : lacking ≡ false → a ≡ given (classes (eqb byte 1) got) → a ≡ ended
+      unfolding answered refuse
+      ends-all t e = rw (le-ltb 1 byte low, lacks-as, t, e, g .are t)
+
+-- ---- the calls
+module _ (c : Chart) (byte : ℕ) (a : Answer (List Class)) where
+  pub segments-bad : badChart c ≡ true → a ≡ refused 21 → a ≡ segmentClassesCall c byte
+  unfolding segmentClassesCall
+  segments-bad b e = e ∙ sym (on-bad c _ b)
+
+  pub segments-good : badChart c ≡ false → a ≡ ended (segmentItem (levelsOf c)) (levelsOf c .segments) byte _ refl a → a ≡ segmentClassesCall c byte
+  unfolding segmentClassesCall segmentClassesRefusal segmentClasses
+  segments-good b e = e ∙ sym (on-good c _ b)
+
+  pub bigs-bad : badChart c ≡ true → a ≡ refused 21 → a ≡ bigClassesCall c byte
+  unfolding bigClassesCall
+  bigs-bad b e = e ∙ sym (on-bad c _ b)
+
+  pub bigs-good : badChart c ≡ false → a ≡ ended (bigItem (levelsOf c)) (levelsOf c .bigs) byte _ refl a → a ≡ bigClassesCall c byte
+  unfolding bigClassesCall bigClassesRefusal bigClasses
+  bigs-good b e = e ∙ sym (on-good c _ b)

@@ -1,0 +1,22 @@
+-- `classes::classes_of` meets its contract. Assumes nothing.
+use native.Mathlib.Omega.{arith}
+use Rattle.laws.proofs.Arrays.{length-via}
+use Rattle.classes.proofs.Given.{classes-given}
+use borrow.Author.Needs.{needs}
+use Rattle.classes.proofs.classes_of.Statement.{statement}
+use Rattle.classes.proofs.classes_of.Tie as tie
+
+walk-requires : tie.Need-walk-requires
+walk-requires c κs = search needs
+
+extend-all-requires : tie.Need-extend-all-requires
+extend-all-requires c κs = search needs
+
+returns : tie.Need-returns
+returns c =
+    let at-walk = c .before .before in
+    let start = at-walk .before in
+    classes-given _ (start .args .n) (start .args .items) _ _ (omega arith) (omega arith) (at-walk .walk .ensures) (c .before .extend-all .ensures) (search (needs, length-via))
+
+pub classes-of-spec : {M : Type 1} → statement M
+classes-of-spec = tie.close (tie.spec walk-requires extend-all-requires returns)

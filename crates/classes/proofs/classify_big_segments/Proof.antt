@@ -1,0 +1,54 @@
+-- `classes::classify_big_segments` meets its contract. Assumes nothing.
+use native.Mathlib.Omega.{arith}
+use mathlib.Core.Path.{_≡_, sym, _∙_}
+use lib.ListN.{length}
+use lib.Seq.{length-take-le}
+use Rattle.rules.specs.Records.{levelsOf}
+use Rattle.laws.proofs.Answers.{Counted, counted}
+use Rattle.laws.proofs.Arrays.{length-via}
+use Rattle.classes.proofs.Given.{segments-bad, segments-good}
+use borrow.Author.Needs.{needs}
+use Rattle.classes.proofs.classify_big_segments.Statement.{statement}
+use Rattle.classes.proofs.classify_big_segments.Tie as tie
+
+counts : (c : tie.Else1) → Counted (c .before .before .args .chart)
+counts c = counted (c .before .before .args .chart) (sym (c .before .bad-chart .ensures) ∙ c .if1 .left)
+
+size : (c : tie.Else1) → length (levelsOf (c .before .before .args .chart) .segments) ≡ c .before .before .args .chart .«segment_count»
+unfolding levelsOf
+size c =
+    let long : length (c .before .before .args .chart .segments) ≡ 256 = search (needs, length-via) in
+    length-take-le _ _ (omega (arith, counts c .segments))
+
+bad-chart-requires : tie.Need-bad-chart-requires
+bad-chart-requires c κs = search needs
+
+refused-requires : tie.Need-refused-requires
+refused-requires c κs = search needs
+
+returns : tie.Need-returns
+returns c = segments-bad _ _ _ (sym (c .before .before .bad-chart .ensures) ∙ c .before .if1 .taken) (c .refused .ensures)
+
+items-of-requires : tie.Need-items-of-requires
+items-of-requires c κs = let n = counts (c .before) in (n .strokes, n .segments)
+
+answer-requires : tie.Need-answer-requires
+answer-requires c κs = counts (c .before .before) .segments
+
+returns-2 : tie.Need-returns-2
+unfolding levelsOf
+returns-2 c =
+    let at-if = c .before .before .before in
+    segments-good _ _ _ (sym (at-if .before .bad-chart .ensures) ∙ at-if .if1 .left)
+    (c .answer .ensures _ (levelsOf (at-if .before .before .args .chart) .segments) (size at-if) (c .before .items-of .ensures))
+
+pub classify-big-segments-spec : {M : Type 1} → statement M
+classify-big-segments-spec =
+    tie.close
+    (tie.spec
+    bad-chart-requires
+    refused-requires
+    returns
+    items-of-requires
+    answer-requires
+    returns-2)

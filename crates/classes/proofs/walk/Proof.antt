@@ -1,0 +1,185 @@
+-- `classes::walk` meets its contract. The invariant: the rows, and the walk over what is left of the items, are the whole walk. Assumes nothing.
+use Prim.Native.Nat.{_≤_, _<_, _-_}
+use native.Mathlib.Omega.{arith}
+use mathlib.Core.Path.{_≡_, refl}
+use mathlib.Core.Option.{none}
+use lib.ListN.{length, take, length-set}
+use Rattle.rules.specs.Classes.{walk}
+use Rattle.classes.specs.Items.{itemsOf}
+use Rattle.classes.proofs.Walked.{Carries, carries-first, carries-all, carries-pass, carries-none, carries-begins, carries-some, row-more}
+use borrow.Author.Tests.{not-true, not-false}
+use borrow.Author.Needs.{needs}
+use Rattle.classes.proofs.walk.Statement.{statement}
+use Rattle.classes.proofs.walk.Tie as tie
+
+abbrev Inv-loop : tie.InvT-loop
+Inv-loop n on items rows₀ count₀ last₀ next₀ i₀ rows count last next i =
+    (i ≤ n) × (count ≤ i) × (length rows ≡ 256)
+    × Carries on (itemsOf n items) last next i (take count rows) (walk on (itemsOf n items) none 0 0 (itemsOf n items))
+
+abbrev μ-loop : tie.MeasureT-loop
+μ-loop n on items rows₀ count₀ last₀ next₀ i₀ rows count last next i = n - i
+
+long : (c : tie.Start Inv-loop μ-loop) → c .args .n ≤ length (c .args .t1)
+long c = omega arith
+
+loop-holds : tie.Need-loop-holds Inv-loop μ-loop
+loop-holds c = (omega arith, omega arith, refl, carries-first _ _)
+
+cast-x : tie.Need-cast-x Inv-loop μ-loop
+cast-x c = search needs
+
+mul-x : tie.Need-mul-x Inv-loop μ-loop
+mul-x c = search needs
+
+array-copy-out-x : tie.Need-array-copy-out-x Inv-loop μ-loop
+array-copy-out-x c = search needs
+
+wanted-requires : tie.Need-wanted-requires Inv-loop μ-loop
+wanted-requires c κs = search needs
+
+both-requires : tie.Need-both-requires Inv-loop μ-loop
+both-requires c κs = search needs
+
+add-i : tie.Need-add-i Inv-loop μ-loop
+add-i c = search needs
+
+loop-less : tie.Need-loop-less Inv-loop μ-loop
+loop-less c = search needs
+
+loop-again : tie.Need-loop-again Inv-loop μ-loop
+loop-again c =
+    let at-both = c .before in
+    let at-wanted = at-both .before in
+    let in-loop = at-wanted .before .before in
+    let head = in-loop .before in (
+      omega arith,
+      omega arith,
+      head .loop .inv .2,
+      carries-pass _ _ (head .loop .i) _ _ _ _ _ (long (head .before)) (head .loop .inv .3) (in-loop .loop-test .taken) _ _ (at-wanted .wanted .ensures)
+          (at-both .both .ensures) (not-true _ (c .if1 .taken)),
+    )
+
+case2-requires : tie.Need-case2-requires Inv-loop μ-loop
+case2-requires c κs = search needs
+
+tried-requires : tie.Need-tried-requires Inv-loop μ-loop
+tried-requires c κs = search needs
+
+enum-known-found : tie.Need-enum-known-found Inv-loop μ-loop
+enum-known-found c = search needs
+
+enum-told : tie.Need-enum-told Inv-loop μ-loop
+enum-told c = search needs
+
+add-i-2 : tie.Need-add-i-2 Inv-loop μ-loop
+add-i-2 c = search needs
+
+loop-less-2 : tie.Need-loop-less-2 Inv-loop μ-loop
+loop-less-2 c = search needs
+
+loop-again-2 : tie.Need-loop-again-2 Inv-loop μ-loop
+loop-again-2 c =
+    let at-tried = c .before .before in
+    let at-if = at-tried .before .before in
+    let at-both = at-if .before in
+    let at-wanted = at-both .before in
+    let in-loop = at-wanted .before .before in
+    let head = in-loop .before in (
+      omega arith,
+      omega arith,
+      head .loop .inv .2,
+      carries-none _ _ (head .loop .i) _ _ _ _ _ (long (head .before)) (head .loop .inv .3) (in-loop .loop-test .taken) _ _ (at-wanted .wanted .ensures)
+          (at-both .both .ensures) _ (at-tried .before .case2 .ensures) _ (at-tried .tried .ensures) (not-false _ (at-if .if1 .left))
+          (c .enum-told .given .1),
+    )
+
+cast-rows : tie.Need-cast-rows Inv-loop μ-loop
+cast-rows c = search needs
+
+mul-rows : tie.Need-mul-rows Inv-loop μ-loop
+mul-rows c = search needs
+
+array-set-from-rows : tie.Need-array-set-from-rows Inv-loop μ-loop
+array-set-from-rows c = search needs
+
+add-count : tie.Need-add-count Inv-loop μ-loop
+add-count c = search needs
+
+add-next : tie.Need-add-next Inv-loop μ-loop
+add-next c =
+    let at-tried = c .before .before .before .before in
+    let at-if = at-tried .before .before in
+    let at-both = at-if .before in
+    let at-wanted = at-both .before in
+    let in-loop = at-wanted .before .before in
+    let head = in-loop .before in
+    let begins =
+    carries-begins _ _ (head .loop .i) _ _ _ _ _ (long (head .before)) (head .loop .inv .3) (in-loop .loop-test .taken) _ _ (at-wanted .wanted .ensures)
+    (at-both .both .ensures) _ (at-tried .before .case2 .ensures) _ (at-tried .tried .ensures) (not-false _ (at-if .if1 .left))
+    _ (c .before .before .found .given .1) in
+    omega (arith, begins .2, head .before .pre)
+
+add-i-3 : tie.Need-add-i-3 Inv-loop μ-loop
+add-i-3 c = search needs
+
+loop-less-3 : tie.Need-loop-less-3 Inv-loop μ-loop
+loop-less-3 c = search needs
+
+loop-again-3 : tie.Need-loop-again-3 Inv-loop μ-loop
+loop-again-3 c =
+    let at-tried = c .before .before .before .before in
+    let at-if = at-tried .before .before in
+    let at-both = at-if .before in
+    let at-wanted = at-both .before in
+    let in-loop = at-wanted .before .before in
+    let head = in-loop .before in
+    let room : head .loop .count < length (head .loop .rows) = omega (arith, head .loop .inv, in-loop .loop-test .taken, head .before .pre) in (
+      omega arith,
+      omega (arith, head .loop .inv),
+      simp length-set (head .loop .inv .2),
+      rw (row-more (head .loop .rows) (head .loop .count) _ room)
+          (carries-some _ _ (head .loop .i) _ _ _ _ _ (long (head .before)) (head .loop .inv .3) (in-loop .loop-test .taken) _ _ (at-wanted .wanted .ensures)
+          (at-both .both .ensures) _ (at-tried .before .case2 .ensures) _ (at-tried .tried .ensures) (not-false _ (at-if .if1 .left))
+          _ (c .before .before .found .given .1)),
+    )
+
+returns : tie.Need-returns Inv-loop μ-loop
+returns c =
+    let head = c .before in
+    record {
+      few = omega (arith, head .loop .inv, head .before .pre);
+      are = carries-all _ _ (head .loop .i) _ _ _ _ _ (long (head .before)) (head .loop .inv .3) (c .loop-test .left);
+    }
+
+pub walk-spec : {M : Type 1} → statement M
+walk-spec =
+    tie.close
+    (tie.spec
+    Inv-loop
+    μ-loop
+    loop-holds
+    cast-x
+    mul-x
+    array-copy-out-x
+    wanted-requires
+    both-requires
+    add-i
+    loop-less
+    loop-again
+    case2-requires
+    tried-requires
+    enum-known-found
+    enum-told
+    add-i-2
+    loop-less-2
+    loop-again-2
+    cast-rows
+    mul-rows
+    array-set-from-rows
+    add-count
+    add-next
+    add-i-3
+    loop-less-3
+    loop-again-3
+    returns)
