@@ -199,11 +199,11 @@ module _ (c : Chart) (q : Quotes) where
       }
 
   pub refused-call :
-      (n : ℕ) (buffer : List ℕ) → (n ≡ 0 → ⊥) → n ≡ writeRefusal c q buffer
-      → (answered n 0 ≡ writeCall c q buffer) × (buffer ≡ bufferAfter c q buffer)
+      (n count : ℕ) (buffer : List ℕ) → (n ≡ 0 → ⊥) → n ≡ writeRefusal c q buffer
+      → (answered n count ≡ writeCall c q buffer) × (buffer ≡ bufferAfter c q buffer)
   unfolding answered writeCall bufferAfter
-  refused-call zero buffer h e = absurd (h refl)
-  refused-call (suc n) buffer h e = (rw (← e), rw (← e, bufferAfter))
+  refused-call zero count buffer h e = absurd (h refl)
+  refused-call (suc n) count buffer h e = (rw (← e), rw (← e, bufferAfter))
 
   pub given-call :
       (n count : ℕ) (old new : List ℕ) → n ≡ 0 → n ≡ writeRefusal c q old

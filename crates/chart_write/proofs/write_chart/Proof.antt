@@ -35,7 +35,7 @@ same-length c = search needs
 
 returns : tie.Need-returns
 returns c =
-    let r = refused-call _ _ _ _ (c .if1 .taken) (c .before .refusal .ensures) in
+    let r = refused-call _ _ _ _ _ (c .if1 .taken) (c .before .refusal .ensures) in
     (r .0, (r .1, λ h. refl))
 
 put-bars-requires : tie.Need-put-bars-requires
