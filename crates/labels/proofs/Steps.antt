@@ -18,7 +18,7 @@ use Rattle.rules.specs.Ranges.{rangeOf}
 use Rattle.rules.specs.Labels.{Named, colName, nameOf, lone, labelsFrom}
 use Rattle.rules.specs.Answer.{given, rowsAnswer}
 use Rattle.laws.proofs.Lists.{map-append}
-use Rattle.laws.proofs.Arrays.{left-more, left-none}
+use Rattle.laws.proofs.Arrays.{left-more, left-none, one-more}
 use Rattle.labels.specs.declared.Last.{Last}
 use Rattle.labels.specs.declared.Last.the-variants as last
 use Rattle.labels.specs.declared.Name.{Name}
@@ -27,7 +27,7 @@ use Rattle.labels.specs.declared.Labelled.{Labelled}
 use Rattle.labels.specs.Bytes.{labelBytes, Extends}
 use Rattle.labels.specs.Touching.{touchesRange}
 use Rattle.labels.specs.Steps.{namedIn, nextName, nameIn, mark, nameBytes, lastAfter, LabelOf}
-use Rattle.labels.proofs.Touching.{take-next, lone-marks}
+use Rattle.labels.proofs.Touching.{lone-marks}
 
 -- ---- the name of a zone, as the tests go
 
@@ -110,7 +110,7 @@ module _ (c : Levels) (zones : List Zone) (n k : ℕ) (last : Last) (rows : List
       → map labelBytes (take k rows) ++ labelsFrom c (namedIn last) (drop k (take n zones)) ≡ all
       → map labelBytes (take (k + 1) (set rows k (r .label))) ++ labelsFrom c (namedIn (r .last)) (drop (k + 1) (take n zones)) ≡ all
   labels-step d alone r h fits w e s i =
-      rw (take-next rows k (r .label) w, map-append, append-assoc, s .text, s .last, e, ← lone-marks c (getD zones k d))
+      rw (one-more rows k (r .label) w, map-append, append-assoc, s .text, s .last, e, ← lone-marks c (getD zones k d))
       (rw (left-more n k zones d h fits, labels-next) at i)
 
   pub labels-end :

@@ -1,9 +1,7 @@
--- Ranges that touch a zone, and the columns of their bars. Assumes nothing.
-use mathlib.Core.Path.{_≡_}
+-- Ranges that touch a zone, and columns of their bars. Assumes nothing.
 use mathlib.Core.Bool.{Bool, false, cond, _&&_}
-use mathlib.Core.List.{List, [], _∷_, map}
-use Prim.Native.Nat.{ℕ, _+_, _≤_}
-use lib.ListN.{length, take}
+use mathlib.Core.List.{List, [], _∷_}
+use Prim.Native.Nat.{ℕ, _+_}
 use lib.Dec.{leb}
 use Rattle.chart.specs.declared.Range.{Range}
 use Rattle.chart.specs.declared.Range.the-variants.{Found, Missing}
@@ -17,15 +15,6 @@ touchesRange z range =
       | Found r ↦ leb (r .«start_bar») (z .«end_bar») && leb (z .«start_bar») (r .«end_bar»)
     ]
 
--- a range's start and end bar; a missing one starts behind every bar, so that it touches no zone
-abbrev pub startOf : Range → ℕ
-startOf (Found r) = r .«start_bar»
-startOf Missing = 0x1_0000
-
-abbrev pub endOf : Range → ℕ
-endOf (Found r) = r .«end_bar»
-endOf Missing = 0
-
 -- 1 where a range's bars (s, e) touch a zone's (from, to), else 0
 unfoldable pub touch : ℕ → ℕ → ℕ → ℕ → ℕ
 touch from to s e = cond (leb s to && leb from e) 1 0
@@ -35,10 +24,3 @@ abbrev pub touching : ℕ → ℕ → List ℕ → List ℕ → ℕ
 touching from to [] es = 0
 touching from to (s ∷ ss) [] = 0
 touching from to (s ∷ ss) (e ∷ es) = touch from to s e + touching from to ss es
-
--- the first m places of two columns have the ranges' start and end bars
-pub record Columns (m : ℕ) (starts ends : List ℕ) (ranges : List Range) : Type 0 where
-  pub first : take m starts ≡ map startOf ranges
-  pub last : take m ends ≡ map endOf ranges
-  pub long-first : m ≤ length starts
-  pub long-last : m ≤ length ends

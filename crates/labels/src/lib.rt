@@ -17,8 +17,9 @@ ghost use Rattle.rules.specs.Records.{Levels};
 ghost use Rattle.rules.specs.Ranges.{rangeOf};
 ghost use Rattle.rules.specs.Labels.{letter, colName, nameOf, labelsFrom};
 ghost use Rattle.rules.specs.Calls.{labelsCall};
+ghost use Rattle.columns.specs.Columns.{Column, startOf, endOf};
 ghost use Rattle.labels.specs.Bytes.{labelBytes, Extends};
-ghost use Rattle.labels.specs.Touching.{touchesRange, startOf, endOf, touch, Columns};
+ghost use Rattle.labels.specs.Touching.{touchesRange, touch};
 ghost use Rattle.labels.specs.Steps.{namedIn, nextName, nameIn, mark, nameBytes, LabelOf};
 
 // The answer of the label call: a number, and where it is 0 the first `count` rows.
@@ -71,55 +72,6 @@ pub fn col_name(n: u64) -> Label
     with_name(NO_LABEL, n)
 }
 
-// The bars of ranges, as columns of numbers.
-struct Bars {
-    starts: [u32; 256],
-    ends: [u32; 256],
-}
-
-// A range's bars. A missing one starts behind every bar, so that it touches no zone.
-struct Bar {
-    start: u32,
-    end: u32,
-}
-
-fn bar_of(range: Range) -> Bar
-    ensures { λ r. ⌜ (r .start ≡ startOf range) × (r .end ≡ endOf range) ⌝ }
-{
-    let Range::Found(s) = range else {
-        return Bar {
-            start: 65536,
-            end: 0,
-        };
-    };
-    Bar {
-        start: s.start_bar as u32,
-        end: s.end_bar as u32,
-    }
-}
-
-// The bars of the first m ranges.
-fn bars_of(slots: [Slot; 256], m: usize) -> Bars
-    requires { ⌜ m ≤ 256 ⌝ }
-    ensures { λ r. ⌜ Columns m (r .starts) (r .ends) (rangesIn m slots) ⌝ }
-{
-    let mut starts = [0u32; 256];
-    let mut ends = [0u32; 256];
-    let mut k = 0;
-    while k < m {
-        let slot = slots[k];
-        let range = slot.range;
-        let bar = bar_of(range);
-        starts[k] = bar.start;
-        ends[k] = bar.end;
-        k += 1;
-    }
-    Bars {
-        starts: starts,
-        ends: ends,
-    }
-}
-
 // 1 where a range's bars (start, end) touch a zone's (from, to), else 0.
 fn touches(from: u32, to: u32, start: u32, end: u32) -> u16
     ensures { λ r. ⌜ r ≡ touch from to start end ⌝ }
@@ -127,14 +79,14 @@ fn touches(from: u32, to: u32, start: u32, end: u32) -> u16
     if start <= to && from <= end { 1 } else { 0 }
 }
 
-// Whether exactly one of m ranges, given by columns of their bars, touches the zone. Columns can be lent; a table of ranges would be
-// copied for each zone.
+// Whether exactly one of m ranges, given by columns of their bars, touches the zone. Bars are counted from 1 in columns, so a missing
+// range (0, 0) ends before every zone.
 fn lone(starts: &[u32], ends: &[u32], m: usize, zone: Zone) -> bool
     requires { ⌜ (m ≤ 256) × (m ≤ length (now starts)) × (m ≤ length (now ends)) ⌝ }
-    ensures { λ r. ⌜ ((ranges : List Range) → Columns m (now (starts .entry)) (now (ends .entry)) ranges → r ≡ eqb (count (touchesRange zone) ranges) 1) ⌝ }
+    ensures { λ r. ⌜ ((ranges : List Range) → Column startOf m (now (starts .entry)) ranges → Column endOf m (now (ends .entry)) ranges → r ≡ eqb (count (touchesRange zone) ranges) 1) ⌝ }
 {
-    let from = zone.start_bar as u32;
-    let to = zone.end_bar as u32;
+    let from = zone.start_bar as u32 + 1;
+    let to = zone.end_bar as u32 + 1;
     let mut n: u16 = 0;
     let mut k = 0;
     while k < m {
@@ -219,11 +171,11 @@ fn label_of(last: Last, zone: Zone, alone: bool) -> Labelled
 }
 
 // The labels of the first `count` zones, in order.
-pub fn labels_of(zones: [Zone; 256], count: usize, m: usize, slots: [Slot; 256]) -> LabelRows
+fn labels_of(zones: [Zone; 256], count: usize, m: usize, slots: [Slot; 256]) -> LabelRows
     requires { ⌜ (count ≤ 256) × (m ≤ 256) ⌝ }
     ensures { λ r. ⌜ ((c : Levels) → rangesIn m slots ≡ map (rangeOf c) (c .bigs) → rowsAnswer (r .number) (r .count) (map labelBytes (r .rows)) ≡ given (labelsFrom c none (take count zones))) ⌝ }
 {
-    let bars = bars_of(slots, m);
+    let bars = columns::bars_of(slots, m);
     let starts = bars.starts;
     let ends = bars.ends;
     let mut rows = [NO_LABEL; 256];

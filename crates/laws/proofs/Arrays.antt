@@ -1,12 +1,12 @@
--- A level that is the first n places of an array. Assumes nothing.
+-- A level that is the first n places of an array, and an array that is filled. Assumes nothing.
 use Prim.Native.Nat.{ℕ, zero, suc, _+_, _<_, _≤_}
 use native.Mathlib.Omega.{arith}
 use native.Mathlib.Numerals.{add-one}
 use mathlib.Core.Path.{_≡_, refl, sym, _∙_}
-use mathlib.Core.List.{List, [], _∷_, map}
+use mathlib.Core.List.{List, [], _∷_, _++_, map}
 use mathlib.Core.Option.{none, some}
-use lib.ListN.{length, getD, getElem?, take, drop, length-map, drop-of-length-le}
-use lib.Seq.{drop-cons, getD-take, length-take-le}
+use lib.ListN.{length, getD, getElem?, set, take, drop, length-map, drop-of-length-le}
+use lib.Seq.{drop-cons, getD-take, length-take-le, take-suc-set}
 
 module _ {A : Type 0} where
   pub at-in : (n i : ℕ) (xs : List A) (d : A) → i < n → i < length xs → getElem? (take n xs) i ≡ some (getD xs i d)
@@ -29,6 +29,10 @@ module _ {A : Type 0} where
 
   pub left-none : (n i : ℕ) (xs : List A) → n ≤ i → n ≤ length xs → drop i (take n xs) ≡ []
   left-none n i xs h k = let long = length-take-le n xs k in drop-of-length-le (take n xs) {i = i} (omega arith)
+
+-- an array filled from its start: one place more
+pub one-more : {A : Type 0} (xs : List A) (i : ℕ) (a : A) → i < length xs → take (i + 1) (set xs i a) ≡ take i xs ++ a ∷ []
+one-more xs i a h = rw (add-one i, take-suc-set xs i a h)
 
 -- what owning a struct tells of a field that is an array of structs: the list of its elements' rows is as long as the array
 pub length-via : (X Y : Type 0) (f : X → Y) (l : List X) (n : ℕ) → length (map f l) ≡ n → length l ≡ n

@@ -80,7 +80,7 @@ module _ (m n : ℕ) (b a z : Triple) (s e : Stroke) where
 -- ---- records read at safe indices
 
 -- the stroke that a segment names, the segment at i being read at k, and the stroke at p
-reached :
+pub reached :
     (m n i k p : ℕ) (xs : List Triple) (ys : List Stroke) (f : Triple → ℕ) → m ≤ length xs → n ≤ length ys
     → (i < m → k ≡ i) → (f (getD xs k no-triple) < n → p ≡ f (getD xs k no-triple))
     → heldIf (ltb i m && ltb (f (getD xs k no-triple)) n) (getD ys p no-stroke)

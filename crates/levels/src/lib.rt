@@ -111,12 +111,12 @@ fn at_most(n: u16, size: u16) -> u16
     if n < size { n } else { size }
 }
 
-// i where it is below n, and 0 elsewhere.
-fn within(i: u16, n: u16) -> usize
+// i where it is below n, and some place below n elsewhere.
+pub fn within(i: u16, n: u16) -> usize
     requires { ⌜ 0 < n ⌝ }
     ensures { λ r. ⌜ Within i n r ⌝ }
 {
-    if i < n { i as usize } else { 0 }
+    (i % n) as usize
 }
 
 // From the start of one stroke to the end of another.

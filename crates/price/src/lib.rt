@@ -1,11 +1,11 @@
 // Prices: the finite `f64` values but -0, their order, and their bits.
 ghost use mathlib.Core.Path.{_≡_};
+ghost use mathlib.Core.Bool.{true};
 ghost use Prim.Native.Nat.{_+_, _*_, _%_, _≤_, _<_};
-ghost use mathlib.Core.List.{_++_};
-ghost use lib.ListN.{length, take, drop};
+ghost use lib.ListN.{length, take};
 ghost use lib.Ieee.{toBits, binary64};
 ghost use Rattle.price.specs.Price.{isPrice, Price, allPrices, lower, higher};
-ghost use Rattle.price.specs.Bytes.{bytesOf, ofBytes, priceBytes, priceBits, readBits};
+ghost use Rattle.price.specs.Bytes.{bytesOf, ofBytes, priceBits, readBits};
 
 // The smaller of two prices, `a` where they are equal.
 pub fn lower(a: f64, b: f64) -> f64
@@ -93,8 +93,29 @@ pub fn bytes_of(n: u64) -> [u8; 8]
     ]
 }
 
-// Whether each element of xs is a price.
-pub fn all_prices(xs: &[f64]) -> bool
+// Whether x is above 0 and finite, as most prices are. It has no branch, so that a loop tests several at a time.
+fn plain(x: f64) -> bool
+    ensures { λ r. ⌜ (r ≡ true → Price x) ⌝ }
+{
+    // the largest finite number
+    (0.0 < x) & (x <= 1.7976931348623157e308)
+}
+
+// Whether each element of xs is plainly a price.
+fn all_plain(xs: &[f64]) -> bool
+    ensures { λ r. ⌜ (r ≡ true → allPrices (now (xs .entry)) ≡ true) ⌝ }
+{
+    let mut good = true;
+    let mut i = 0usize;
+    while i < xs.len() {
+        good = good & plain(xs[i]);
+        i += 1;
+    }
+    good
+}
+
+// Whether each element of xs is a price, one after the other.
+fn each_price(xs: &[f64]) -> bool
     ensures { λ r. ⌜ r ≡ allPrices (now (xs .entry)) ⌝ }
 {
     let mut i = 0usize;
@@ -105,6 +126,16 @@ pub fn all_prices(xs: &[f64]) -> bool
         i += 1;
     }
     true
+}
+
+// Whether each element of xs is a price. The quick test decides, but where one is 0, below 0 or no price.
+pub fn all_prices(xs: &[f64]) -> bool
+    ensures { λ r. ⌜ r ≡ allPrices (now (xs .entry)) ⌝ }
+{
+    if all_plain(xs) {
+        return true;
+    }
+    each_price(xs)
 }
 
 // A byte as a wide number.
@@ -122,7 +153,7 @@ fn half_of(a: u8, b: u8, c: u8, d: u8) -> u64
 }
 
 // The number that the first eight bytes of s stand for, the lowest first.
-pub fn number_of(s: &[u8]) -> u64
+fn number_of(s: &[u8]) -> u64
     requires { ⌜ 8 ≤ length (now s) ⌝ }
     ensures { λ r. ⌜ r ≡ ofBytes (take 8 (now (s .entry))) ⌝ }
 {
@@ -131,33 +162,10 @@ pub fn number_of(s: &[u8]) -> u64
     lo + 0x1_0000_0000 * hi
 }
 
-// Writes the eight bytes of n at the start of out.
-pub fn put(out: &mut [u8], n: u64)
-    requires { ⌜ 8 ≤ length (now out) ⌝ }
-    ensures { λ _. ⌜ now (out .exit) ≡ bytesOf 8 n ++ drop 8 (now (out .entry)) ⌝ }
-{
-    let mut m = n;
-    let mut i = 0usize;
-    while i < 8 {
-        out[i] = byte(m);
-        m = m / 256;
-        i += 1;
-    }
-}
-
 // The price in the first eight bytes of s, where they hold one.
 pub fn get_price(s: &[u8]) -> PriceRead
     requires { ⌜ 8 ≤ length (now s) ⌝ }
     ensures { λ r. ⌜ r ≡ readBits (ofBytes (take 8 (now (s .entry)))) ⌝ }
 {
     price_of_bits(number_of(s))
-}
-
-// Writes a price's eight bytes at the start of out.
-pub fn put_price(out: &mut [u8], x: f64)
-    requires { ⌜ 8 ≤ length (now out) ⌝ }
-    requires { ⌜ Price x ⌝ }
-    ensures { λ _. ⌜ now (out .exit) ≡ priceBytes x ++ drop 8 (now (out .entry)) ⌝ }
-{
-    put(out, bits_of_price(x));
 }

@@ -20,11 +20,12 @@ ghost use Rattle.rules.specs.Refusals.{refuse};
 ghost use Rattle.rules.specs.Calls.{zonesCall};
 ghost use Rattle.zones.specs.Scan.{scanned};
 
-// The answer of a zone call: a number, and where it is 0 the first `count` rows.
+// The answer of a zone call: a number, and where it is 0 the first `count` rows. The rows stand first: behind the numbers they would
+// have a gap before them, and the compiler would then copy them once more.
 pub struct ZoneRows {
+    pub rows: [Zone; 256],
     pub number: u8,
     pub count: u16,
-    pub rows: [Zone; 256],
 }
 
 // A run of one, of owner h.

@@ -11,7 +11,7 @@ use Rattle.rules.specs.Records.{Levels}
 use Rattle.rules.specs.Ranges.{rangeOf}
 use Rattle.rules.specs.Labels.{labelsFrom}
 use Rattle.labels.specs.Bytes.{labelBytes}
-use Rattle.labels.specs.Touching.{Columns}
+use Rattle.columns.specs.Columns.{Column, startOf, endOf}
 use Rattle.labels.specs.Steps.{namedIn, nextName}
 use Rattle.labels.proofs.Steps.{label-next, labels-step, labels-end}
 use Rattle.labels.proofs.labels_of.Statement.{statement}
@@ -20,7 +20,7 @@ use Rattle.labels.proofs.labels_of.Tie as tie
 abbrev Inv-loop : tie.InvT-loop
 Inv-loop count m zones starts ends rows₀ last₀ k₀ rows last k =
     (k ≤ count) × (length rows ≡ 256) × (nextName (namedIn last) ≤ k)
-    × ((c : Levels) → Columns m starts ends (map (rangeOf c) (c .bigs))
+    × ((c : Levels) → Column startOf m starts (map (rangeOf c) (c .bigs)) → Column endOf m ends (map (rangeOf c) (c .bigs))
     → map labelBytes (take k rows) ++ labelsFrom c (namedIn last) (drop k (take count zones)) ≡ labelsFrom c none (take count zones))
 
 abbrev μ-loop : tie.MeasureT-loop
@@ -34,7 +34,7 @@ bars-of-requires : tie.Need-bars-of-requires Inv-loop μ-loop
 bars-of-requires c κs = search needs
 
 loop-holds : tie.Need-loop-holds Inv-loop μ-loop
-loop-holds c = (search needs, refl, search needs, λ c columns. refl)
+loop-holds c = (search needs, refl, search needs, λ c first last. refl)
 
 mul-zone : tie.Need-mul-zone Inv-loop μ-loop
 mul-zone c = search needs
@@ -51,7 +51,7 @@ slice-aggregate-lone-2 c = search needs
 lone-requires : tie.Need-lone-requires Inv-loop μ-loop
 lone-requires c κs =
     let columns = c .before .before .before .before .before .before .before .bars-of .ensures in
-    (search needs, columns .long-first, columns .long-last)
+    (search needs, columns .0 .long, columns .1 .long)
 
 label-of-requires : tie.Need-label-of-requires Inv-loop μ-loop
 label-of-requires c κs = search needs
@@ -77,8 +77,8 @@ loop-again c =
       search needs,
       search needs,
       omega (arith, label-next _ _ _ _ (labelled .label-of .ensures)),
-      λ levels columns. labels-step levels (start .args .t1) (start .args .count) (at-loop .loop .k) (at-loop .loop .last) (at-loop .loop .rows) _ _ _ _
-          (search needs) (within start) (search needs) (labelled .before .lone .ensures _ columns) (labelled .label-of .ensures) (i .3 levels columns),
+      λ levels first last. labels-step levels (start .args .t1) (start .args .count) (at-loop .loop .k) (at-loop .loop .last) (at-loop .loop .rows) _ _ _ _
+          (search needs) (within start) (search needs) (labelled .before .lone .ensures _ first last) (labelled .label-of .ensures) (i .3 levels first last),
     )
 
 cast-t29 : tie.Need-cast-t29 Inv-loop μ-loop
@@ -89,7 +89,8 @@ returns c levels same =
     let at-loop = c .before in
     let start = at-loop .before .before .before .before in
     let i = at-loop .loop .inv in
-    labels-end levels (start .args .t1) (start .args .count) (at-loop .loop .k) (at-loop .loop .last) (at-loop .loop .rows) _ (search needs) (i .0) (within start) (search needs) (i .3 levels (rw same at (at-loop .before .before .before .bars-of .ensures)))
+    let columns = at-loop .before .before .before .bars-of .ensures in
+    labels-end levels (start .args .t1) (start .args .count) (at-loop .loop .k) (at-loop .loop .last) (at-loop .loop .rows) _ (search needs) (i .0) (within start) (search needs) (i .3 levels (rw same at columns .0) (rw same at columns .1))
 
 pub labels-of-spec : {M : Type 1} → statement M
 labels-of-spec =

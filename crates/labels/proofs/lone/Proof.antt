@@ -20,8 +20,14 @@ abbrev μ-loop : tie.MeasureT-loop
 cast-from : tie.Need-cast-from Inv-loop μ-loop
 cast-from c = search needs
 
+add-from : tie.Need-add-from Inv-loop μ-loop
+add-from c = search needs
+
 cast-to : tie.Need-cast-to Inv-loop μ-loop
 cast-to c = search needs
+
+add-to : tie.Need-add-to Inv-loop μ-loop
+add-to c = search needs
 
 loop-holds : tie.Need-loop-holds Inv-loop μ-loop
 loop-holds c = search needs
@@ -62,13 +68,13 @@ loop-again c =
     )
 
 returns : tie.Need-returns Inv-loop μ-loop
-returns c ranges columns =
+returns c ranges starts ends =
     let at-loop = c .before in
     let start = at-loop .before .before .before .before .before in
     let a = start .args in
     let n = touching-end _ _ (a .m) (at-loop .loop .k) (at-loop .loop .n) (a .starts .now) (a .ends .now) _ (start .pre .1) (start .pre .2)
     (search needs) (at-loop .loop .inv .2) in
-    lone-columns (a .zone) (a .m) (at-loop .loop .n) _ _ ranges (search needs) columns n
+    lone-columns (a .zone) (a .m) (at-loop .loop .n) _ _ ranges starts ends n
 
 pub lone-spec : {M : Type 1} → statement M
 lone-spec =
@@ -77,7 +83,9 @@ lone-spec =
     Inv-loop
     μ-loop
     cast-from
+    add-from
     cast-to
+    add-to
     loop-holds
     mul-touches
     shared-slice-read-touches

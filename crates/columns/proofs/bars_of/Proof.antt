@@ -1,31 +1,24 @@
--- `labels::bars_of` meets its contract. The invariant: the columns so far, and the bars of the ranges that are left, are the bars of all. Assumes nothing.
-use mathlib.Core.Path.{_≡_}
-use mathlib.Core.List.{_++_, map}
+-- `columns::bars_of` meets its contract. The invariant: the columns of the first k ranges. Assumes nothing.
+use mathlib.Core.Path.{_≡_, refl}
 use Prim.Native.Nat.{_≤_, _-_}
-use native.Mathlib.Omega.{arith}
 use lib.ListN.{length, take}
 use borrow.Author.Needs.{needs}
-use Rattle.chart.specs.Table.{rangesIn}
-use Rattle.labels.specs.Touching.{startOf, endOf}
-use Rattle.labels.proofs.Touching.{rangesLeft, column-next, column-end}
-use Rattle.labels.proofs.bars_of.Statement.{statement}
-use Rattle.labels.proofs.bars_of.Tie as tie
+use Rattle.chart.specs.declared.Slot.{Slot}
+use Rattle.columns.specs.Columns.{Column, startOf, endOf}
+use Rattle.columns.proofs.Fill.{fill-none, fill-next, fill-end, column-map}
+use Rattle.columns.proofs.bars_of.Statement.{statement}
+use Rattle.columns.proofs.bars_of.Tie as tie
 
 abbrev Inv-loop : tie.InvT-loop
 Inv-loop m slots starts₀ ends₀ k₀ starts ends k =
     (k ≤ m) × (length starts ≡ 256) × (length ends ≡ 256)
-    × (take k starts ++ map startOf (rangesLeft m k slots) ≡ map startOf (rangesIn m slots))
-    × (take k ends ++ map endOf (rangesLeft m k slots) ≡ map endOf (rangesIn m slots))
+    × Column (λ (s : Slot). startOf (s .range)) k starts (take k slots) × Column (λ (s : Slot). endOf (s .range)) k ends (take k slots)
 
 abbrev μ-loop : tie.MeasureT-loop
 μ-loop m slots starts₀ ends₀ k₀ starts ends k = m - k
 
--- m is within the array
-within : (c : tie.Start Inv-loop μ-loop) → c .args .m ≤ length (c .args .t1)
-within c = omega arith
-
 loop-holds : tie.Need-loop-holds Inv-loop μ-loop
-loop-holds c = search needs
+loop-holds c = (search needs, refl, refl, fill-none _ _ (c .args .t1), fill-none _ _ (c .args .t1))
 
 mul-slot : tie.Need-mul-slot Inv-loop μ-loop
 mul-slot c = search needs
@@ -62,20 +55,19 @@ loop-again c =
       search needs,
       search needs,
       search needs,
-      column-next startOf (start .args .m) (at-loop .loop .k) _ (at-loop .loop .starts) _ _ _ (search needs) (within start) (search needs) (c .bar-of .ensures .0) (i .3),
-      column-next endOf (start .args .m) (at-loop .loop .k) _ (at-loop .loop .ends) _ _ _ (search needs) (within start) (search needs) (c .bar-of .ensures .1) (i .4),
+      fill-next _ (at-loop .loop .k) (at-loop .loop .starts) (start .args .t1) _ _ (search needs) (search needs) (c .bar-of .ensures .0) (i .3),
+      fill-next _ (at-loop .loop .k) (at-loop .loop .ends) (start .args .t1) _ _ (search needs) (search needs) (c .bar-of .ensures .1) (i .4),
     )
 
 returns : tie.Need-returns Inv-loop μ-loop
 returns c =
     let at-loop = c .before in
     let i = at-loop .loop .inv in
-    record {
-      first = column-end startOf (at-loop .before .args .m) (at-loop .loop .k) _ _ _ (search needs) (i .0) (within (at-loop .before)) (i .3);
-      last = column-end endOf (at-loop .before .args .m) (at-loop .loop .k) _ _ _ (search needs) (i .0) (within (at-loop .before)) (i .4);
-      long-first = search needs;
-      long-last = search needs;
-    }
+    let m = at-loop .before .args .m in
+    let k = at-loop .loop .k in (
+      column-map _ startOf m _ _ (fill-end _ m k _ _ (search needs) (i .0) (i .3)),
+      column-map _ endOf m _ _ (fill-end _ m k _ _ (search needs) (i .0) (i .4)),
+    )
 
 pub bars-of-spec : {M : Type 1} → statement M
 bars-of-spec =

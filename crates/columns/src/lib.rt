@@ -1,0 +1,188 @@
+// Columns of numbers that stand for records of a chart: they can be lent, where an array of records would be copied for each use.
+// A bar in a column is counted from 1, and 0 stands for none.
+use chart::Chart;
+use chart::Range;
+use chart::Slot;
+use chart::Stroke;
+use chart::Triple;
+use chart::Zone;
+ghost use mathlib.Core.Path.{_≡_};
+ghost use mathlib.Core.List.{map};
+ghost use Prim.Native.Nat.{_≤_};
+ghost use lib.ListN.{length, take};
+ghost use Rattle.chart.specs.declared.Triple.{Triple};
+ghost use Rattle.chart.specs.declared.Zone.{Zone};
+ghost use Rattle.chart.specs.Table.{rangesIn};
+ghost use Rattle.rules.specs.Records.{Levels, levelsOf};
+ghost use Rattle.rules.specs.Ranges.{lastStroke};
+ghost use Rattle.rules.specs.Marks.{superiorEnd};
+ghost use Rattle.columns.specs.Columns.{Column, startOf, endOf, barOf, Prices};
+ghost use Rattle.columns.specs.Read.{lastFrom};
+
+// The directions of the first n triples.
+pub fn ways_of(triples: [Triple; 256], n: usize) -> [u8; 256]
+    requires { ⌜ n ≤ 256 ⌝ }
+    ensures { λ r. ⌜ Column (λ (t : Triple). t .direction) n r (take n triples) ⌝ }
+{
+    let mut ways = [0u8; 256];
+    let mut k = 0;
+    while k < n {
+        ways[k] = triples[k].direction;
+        k += 1;
+    }
+    ways
+}
+
+// ---- ranges
+
+// The bars of ranges.
+pub struct Bars {
+    pub starts: [u32; 256],
+    pub ends: [u32; 256],
+}
+
+// A range's bars.
+struct Bar {
+    start: u32,
+    end: u32,
+}
+
+fn bar_of(range: Range) -> Bar
+    ensures { λ r. ⌜ (r .start ≡ startOf range) × (r .end ≡ endOf range) ⌝ }
+{
+    let Range::Found(s) = range else {
+        return Bar { start: 0, end: 0 };
+    };
+    Bar {
+        start: s.start_bar as u32 + 1,
+        end: s.end_bar as u32 + 1,
+    }
+}
+
+// The bars of the first m ranges.
+pub fn bars_of(slots: [Slot; 256], m: usize) -> Bars
+    requires { ⌜ m ≤ 256 ⌝ }
+    ensures { λ r. ⌜ Column startOf m (r .starts) (rangesIn m slots) × Column endOf m (r .ends) (rangesIn m slots) ⌝ }
+{
+    let mut starts = [0u32; 256];
+    let mut ends = [0u32; 256];
+    let mut k = 0;
+    while k < m {
+        let slot = slots[k];
+        let range = slot.range;
+        let bar = bar_of(range);
+        starts[k] = bar.start;
+        ends[k] = bar.end;
+        k += 1;
+    }
+    Bars {
+        starts: starts,
+        ends: ends,
+    }
+}
+
+// ---- end points
+
+// The end points of bigs: the end bar of each, and where there is one its end price.
+pub struct Points {
+    pub bars: [u32; 256],
+    pub prices: [f64; 256],
+}
+
+// The end bar of the big b in a chart with these numbers of segments and strokes: z is its last segment and e the last stroke of z, each
+// of them where it is there.
+fn end_bar_from(b: Triple, z: Triple, e: Stroke, segments: u16, strokes: u16) -> u32
+    ensures { λ r. ⌜ r ≡ barOf (lastFrom segments strokes b z e) ⌝ }
+{
+    if segments <= b.last {
+        return 0;
+    }
+    if strokes <= z.last {
+        return 0;
+    }
+    e.end_bar as u32 + 1
+}
+
+// The end points of all bigs, once: a call on the chart for each would copy the chart.
+pub fn points_of(chart: Chart) -> Points
+    requires { ⌜ (chart .«stroke_count» ≤ 512) × (chart .«segment_count» ≤ 256) × (chart .«big_count» ≤ 256) ⌝ }
+    ensures { λ r. ⌜ Column barOf (chart .«big_count») (r .bars) (map (lastStroke (levelsOf chart)) (levelsOf chart .bigs)) ⌝ }
+    ensures { λ r. ⌜ Prices (r .prices) (map (lastStroke (levelsOf chart)) (levelsOf chart .bigs)) ⌝ }
+{
+    let n = chart.big_count as usize;
+    let mut bars = [0u32; 256];
+    let mut prices = [0.0f64; 256];
+    let mut k = 0usize;
+    while k < n {
+        let b = chart.bigs[k];
+        let j = levels::within(b.last, 256);
+        let z = chart.segments[j];
+        let q = levels::within(z.last, 512);
+        let e = chart.strokes[q];
+        bars[k] = end_bar_from(b, z, e, chart.segment_count, chart.stroke_count);
+        prices[k] = e.end_price;
+        k += 1;
+    }
+    Points {
+        bars: bars,
+        prices: prices,
+    }
+}
+
+// The end bar of a superior, by the end bars of m bigs.
+fn superior_end(s: Triple, points: &[u32], m: usize) -> u32
+    requires { ⌜ m ≤ length (now points) ⌝ }
+    ensures { λ r. ⌜ ((c : Levels) → Column barOf m (now (points .entry)) (map (lastStroke c) (c .bigs)) → r ≡ barOf (superiorEnd c s)) ⌝ }
+{
+    if s.last < s.first {
+        return 0;
+    }
+    let i = s.last as usize;
+    if m <= i {
+        return 0;
+    }
+    points[i]
+}
+
+// The end bars of the first n superiors, by the end bars of m bigs: taken where first ≤ last and last is a big.
+pub fn superior_ends(superiors: [Triple; 256], n: usize, points: &[u32], m: usize) -> [u32; 256]
+    requires { ⌜ (n ≤ 256) × (m ≤ length (now points)) ⌝ }
+    ensures { λ r. ⌜ ((c : Levels) → Column barOf m (now (points .entry)) (map (lastStroke c) (c .bigs)) → Column (λ (t : Triple). barOf (superiorEnd c t)) n r (take n superiors)) ⌝ }
+{
+    let mut ends = [0u32; 256];
+    let mut k = 0;
+    while k < n {
+        let s = superiors[k];
+        ends[k] = superior_end(s, points, m);
+        k += 1;
+    }
+    ends
+}
+
+// ---- zones
+
+// The superior and the start bar of each zone. A zone has a start bar always, so this one is the bar itself.
+pub struct ZoneBars {
+    pub owners: [u16; 256],
+    pub starts: [u16; 256],
+}
+
+// The superiors and start bars of the first n zones.
+pub fn zone_bars(zones: [Zone; 256], n: usize) -> ZoneBars
+    requires { ⌜ n ≤ 256 ⌝ }
+    ensures { λ r. ⌜ Column (λ (z : Zone). z .«sup_idx») n (r .owners) (take n zones) × Column (λ (z : Zone). z .«start_bar») n (r .starts) (take n zones) ⌝ }
+{
+    let mut owners = [0u16; 256];
+    let mut starts = [0u16; 256];
+    let mut k = 0;
+    while k < n {
+        let zone = zones[k];
+        owners[k] = zone.sup_idx;
+        starts[k] = zone.start_bar;
+        k += 1;
+    }
+    ZoneBars {
+        owners: owners,
+        starts: starts,
+    }
+}
