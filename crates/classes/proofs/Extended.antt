@@ -1,22 +1,20 @@
 -- Extension: of one class, and of all from the last to the first, one law for each way through the code. Assumes nothing.
-use Prim.Native.Nat.{ℕ, zero, suc, _+_, _-_, _<_, _≤_, min}
+use Prim.Native.Nat.{ℕ, zero, suc, _+_, _-_, _≤_, min}
 use native.Mathlib.Omega.{arith}
 use native.Mathlib.Numerals.{add-one}
 use mathlib.Core.Path.{_≡_, refl, ap, sym, _∙_}
 use mathlib.Core.Bool.{Bool, true, false, _&&_}
-use mathlib.Core.List.{List, [], _∷_, map}
-use mathlib.Core.Option.{none}
-use lib.ListN.{length, getD, getElem?, set, take, drop, length-set}
+use mathlib.Core.List.{List, [], _∷_}
+use mathlib.Core.Option.{some}
+use lib.ListN.{length, getD, getElem?, set, take, drop, length-set, drop-of-length-le}
 use lib.Seq.{take-nil, take-take, take-set-le, take-set-lt, drop-set-lt, getD-set-same, getD-take}
 use lib.Dec.{eqb}
 use lib.Ieee.{Float}
 use Rattle.chart.specs.declared.Class.{Class}
 use Rattle.rules.specs.Classes.{Item, atOrBeyond, moved, extendOver, extend, extendAll}
-use Rattle.laws.proofs.Arrays.{at-out, left-more, left-none}
+use Rattle.laws.proofs.Arrays.{left-more, left-none}
 use Rattle.levels.proofs.Read.{clipped}
-use Rattle.classes.specs.declared.Item as struct
-use Rattle.classes.specs.Items.{itemOf, itemsOf}
-use Rattle.classes.proofs.Items.{no-item, items-length, items-at, items-more, items-none}
+use Rattle.classes.proofs.Items.{at-past, left-from}
 
 -- ---- parts of a list
 
@@ -26,34 +24,27 @@ drop-take (suc a) zero l = let z : zero - suc a ≡ 0 = omega arith in rw z
 drop-take (suc a) (suc b) [] = sym (take-nil (suc b - suc a))
 drop-take (suc a) (suc b) (x ∷ l) = let z : suc b - suc a ≡ b - a = omega arith in rw z (drop-take a b l)
 
-take-map : {A B : Type 0} (f : A → B) (n : ℕ) (l : List A) → take n (map f l) ≡ map f (take n l)
-take-map f zero l = refl
-take-map f (suc n) [] = refl
-take-map f (suc n) (x ∷ l) = rw (take-map f n l)
-
-map-out : (n j : ℕ) (xs : List struct.Item) → n ≤ j → getElem? (itemsOf n xs) j ≡ none
-map-out n j xs h = rw (← take-map itemOf n xs) (at-out n j (map itemOf xs) h)
-
 -- ---- one class
 
-module _ (n stop : ℕ) (xs : List struct.Item) (k : Class) (all : n ≤ length xs) where
-  pub extend-none : n ≤ k .last → k ≡ extend (itemsOf n xs) stop k
+module _ (items : List Item) (n stop : ℕ) (k : Class) (size : length items ≡ n) where
+  pub extend-none : n ≤ k .last → k ≡ extend items stop k
   unfolding extend
-  extend-none h = rw (extend, map-out n (k .last) xs h)
+  extend-none h = rw (extend, at-past items (k .last) (omega arith))
 
   -- the items that it may reach, up to `end`
-  reachable :
-      (end : ℕ) → end ≡ min stop n
-      → take (stop - suc (k .last)) (drop (suc (k .last)) (itemsOf n xs)) ≡ drop (suc (k .last)) (itemsOf end xs)
-  reachable end e =
-      sym (drop-take (suc (k .last)) stop (itemsOf n xs))
-      ∙ (rw (← clipped stop n (itemsOf n xs) (items-length n 0 xs all), ← e, take-map itemOf end (take n xs), take-take end n xs (omega arith)))
-
   pub extend-begins :
-      (end : ℕ) → k .last < n → end ≡ min stop n
-      → extendOver k (getD xs (k .last) no-item .end) (k .last + 1) (drop (k .last + 1) (itemsOf end xs)) ≡ extend (itemsOf n xs) stop k
+      (end : ℕ) (x : Item) → getElem? items (k .last) ≡ some x → end ≡ min stop n
+      → extendOver k (x .end) (k .last + 1) (drop (k .last + 1) (take end items)) ≡ extend items stop k
   unfolding extend
-  extend-begins end h e = rw (extend, items-at n (k .last) xs h all, reachable end e, add-one (k .last))
+  extend-begins end x there e =
+      rw (
+        extend,
+        there,
+        ← drop-take (suc (k .last)) stop items,
+        ← clipped stop n items size,
+        ← e,
+        add-one (k .last),
+      )
 
 module _ (k : Class) (p : Float) (j : ℕ) (y : Item) (ys : List Item) where
   over-yes :
@@ -69,30 +60,27 @@ module _ (k : Class) (p : Float) (j : ℕ) (y : Item) (ys : List Item) where
   over-no e = rw (extendOver, e, add-one j)
 
 -- k is the class as it is extended so far, and item j the next
-module _
-    (n j : ℕ) (xs : List struct.Item) (k goal : Class) (p : Float) (all : n ≤ length xs)
-    (left : extendOver k p j (drop j (itemsOf n xs)) ≡ goal)
-  where
-    pub over-none : n ≤ j → k ≡ goal
-    unfolding extendOver
-    over-none h = rw (items-none n j xs h all) at left
+module _ (items : List Item) (j : ℕ) (k goal : Class) (p : Float) (left : extendOver k p j (drop j items) ≡ goal) where
+  pub over-none : length items ≤ j → k ≡ goal
+  unfolding extendOver
+  over-none h = rw (drop-of-length-le items {i = j} h) at left
 
-    module _ (h : j < n) (r : Bool) where
-      abbrev y : struct.Item
-      y = getD xs j no-item
-
+  -- y is item j, and r tells whether the class reaches it
+  module _
+      (y : Item) (there : getElem? items j ≡ some y) (r : Bool)
+      (reaches : r ≡ (eqb (y .direction) (k .direction) && atOrBeyond (k .direction) (y .end) p))
+    where
       abbrev ys : List Item
-      ys = drop (j + 1) (itemsOf n xs)
+      ys = drop (j + 1) items
 
-      here : extendOver k p j (itemOf y ∷ ys) ≡ goal
-      here = rw (items-more n j xs h all) at left
+      here : extendOver k p j (y ∷ ys) ≡ goal
+      here = rw (left-from items j y there) at left
 
-      module _ (reaches : r ≡ (eqb (y .direction) (k .direction) && atOrBeyond (k .direction) (y .end) p)) where
-        pub over-pass : r ≡ false → extendOver k p (j + 1) ys ≡ goal
-        over-pass e = sym (over-no k p j (itemOf y) ys (sym reaches ∙ e)) ∙ here
+      pub over-pass : r ≡ false → extendOver k p (j + 1) ys ≡ goal
+      over-pass e = sym (over-no k p j y ys (sym reaches ∙ e)) ∙ here
 
-        pub over-moves : (m : Class) → r ≡ true → m ≡ moved k j → extendOver m (y .end) (j + 1) ys ≡ goal
-        over-moves m e f = rw f (sym (over-yes k p j (itemOf y) ys (sym reaches ∙ e)) ∙ here)
+      pub over-moves : (m : Class) → r ≡ true → m ≡ moved k j → extendOver m (y .end) (j + 1) ys ≡ goal
+      over-moves m e f = rw f (sym (over-yes k p j y ys (sym reaches ∙ e)) ∙ here)
 
 -- ---- all classes
 

@@ -1,25 +1,26 @@
--- Items of a level: what is gathered and what is left, records read where they are there, and bigs by way of their spans. Assumes nothing.
-use Prim.Native.Nat.{ℕ, _+_, _<_, _≤_}
+-- Items of a level: what is gathered and what is left, and the item of a record by what was read of the chart. Assumes nothing.
+use Prim.Native.Nat.{ℕ, suc, _+_, _<_, _≤_, min}
 use native.Mathlib.Omega.{arith}
-use native.Mathlib.Numerals.{add-one}
 use mathlib.Core.Path.{_≡_, refl, sym, ap, _∙_}
-use mathlib.Core.Bool.{Bool, true, false, _||_, true≢false}
+use mathlib.Core.Bool.{Bool, true, false, cond, _&&_, true≢false}
 use mathlib.Core.List.{List, [], _∷_, _++_, append-assoc, append-nil}
 use mathlib.Core.Option.{Option, none, some}
-use lib.ListN.{length, getD, getElem?, set, take, drop}
-use lib.Seq.{take-suc-set}
+use lib.ListN.{length, getD, getElem?, take, drop, drop-of-length-le}
+use lib.Seq.{length-take-le}
+use lib.Dec.{ltb}
+use borrow.Author.Tests.{ltb-true, ltb-false, lt-ltb, le-ltb}
 use Rattle.chart.specs.declared.Stroke.{Stroke}
 use Rattle.chart.specs.declared.Triple.{Triple}
 use Rattle.chart.specs.declared.Chart.{Chart}
 use Rattle.rules.specs.Lists.{any, isNone, andThen, collect}
-use Rattle.rules.specs.Records.{Levels, levelsOf}
+use Rattle.rules.specs.Records.{levelsOf}
 use Rattle.rules.specs.Ranges.{firstStroke, lastStroke}
-use Rattle.rules.specs.Classes.{Item, item, segmentItem, bigItem}
-use Rattle.laws.proofs.Lists.{map-append}
-use Rattle.laws.proofs.Arrays.{at-in, at-out, left-more, left-none}
+use Rattle.rules.specs.Classes.{item, segmentItem, bigItem}
+use Rattle.laws.proofs.Arrays.{at-in, at-out}
+use Rattle.levels.specs.Read.{heldIf}
 use Rattle.levels.proofs.Read.{no-triple, no-stroke}
-use Rattle.classes.specs.declared.Item as struct
-use Rattle.classes.specs.Items.{itemOf, itemsOf, Gathers, overStrokes}
+use Rattle.classes.specs.Items.{levelOf, itemIn, itemFrom, Gathers}
+use Rattle.classes.proofs.Items.{left-from}
 
 -- ---- an answer in front of others, where it is there
 
@@ -34,171 +35,152 @@ collect-put {B = B} f x xs = go (f x) (collect f xs)
     go none l = refl
     go (some y) l = refl
 
--- ---- the answers to the first n triples, those before place i being done
-module _ {A : Type 0} (f : Triple → Option A) (n i : ℕ) (ts : List Triple) where
-  pub record Left (done : List A) : Type 0 where
-    pub lack : any (λ (t : Triple). isNone (f t)) (drop i (take n ts)) ≡ any (λ (t : Triple). isNone (f t)) (take n ts)
-    pub rest : done ++ collect f (drop i (take n ts)) ≡ collect f (take n ts)
+-- ---- the answers to ts, those before place i being done
+module _ {A : Type 0} (f : Triple → Option A) (ts : List Triple) where
+  pub record Left (i : ℕ) (done : List A) : Type 0 where
+    pub lack : any (λ (t : Triple). isNone (f t)) (drop i ts) ≡ any (λ (t : Triple). isNone (f t)) ts
+    pub rest : done ++ collect f (drop i ts) ≡ collect f ts
 
-pub left-first : {A : Type 0} (f : Triple → Option A) (n : ℕ) (ts : List Triple) → Left f n 0 ts []
-left-first f n ts = record { lack = refl; rest = refl }
+  pub left-first : Left 0 []
+  left-first = record { lack = refl; rest = refl }
 
-module _ {A : Type 0} (f : Triple → Option A) (n i : ℕ) (ts : List Triple) (done : List A) (all : n ≤ length ts) (l : Left f n i ts done) where
-  pub left-all : n ≤ i → Gathers f (take n ts) false done
-  left-all h =
-      let over = left-none n i ts h all in
-      record { lack = rw over at (l .lack); are = λ e. sym (append-nil done) ∙ (rw over at (l .rest)) }
+  module _ (i : ℕ) (done : List A) (l : Left i done) where
+    pub left-all : length ts ≤ i → Gathers f ts false done
+    left-all h =
+        let over = drop-of-length-le ts {i = i} h in
+        record { lack = rw over at (l .lack); are = λ e. sym (append-nil done) ∙ (rw over at (l .rest)) }
 
-  module _ (h : i < n) where
-    pub left-missing : (got : List A) → f (getD ts i no-triple) ≡ none → Gathers f (take n ts) true got
-    left-missing got e =
-        record { lack = rw (left-more n i ts no-triple h all, e) at (l .lack); are = λ z. absurd (true≢false z) }
+    module _ (t : Triple) (there : getElem? ts i ≡ some t) where
+      pub left-missing : (got : List A) → f t ≡ none → Gathers f ts true got
+      left-missing got e =
+          record { lack = rw (left-from ts i t there, e) at (l .lack); are = λ z. absurd (true≢false z) }
 
-    pub left-there : (a : A) → f (getD ts i no-triple) ≡ some a → Left f n (i + 1) ts (done ++ a ∷ [])
-    left-there a e =
-        record {
-          lack = rw (left-more n i ts no-triple h all, e) at (l .lack);
-          rest = append-assoc done (a ∷ []) (collect f (drop (i + 1) (take n ts)))
-              ∙ (rw (left-more n i ts no-triple h all, collect-put f (getD ts i no-triple) (drop (i + 1) (take n ts)), e) at (l .rest));
-        }
+      pub left-there : (a : A) → f t ≡ some a → Left (i + 1) (done ++ a ∷ [])
+      left-there a e =
+          record {
+            lack = rw (left-from ts i t there, e) at (l .lack);
+            rest = append-assoc done (a ∷ []) (collect f (drop (i + 1) ts))
+                ∙ (rw (left-from ts i t there, collect-put f t (drop (i + 1) ts), e) at (l .rest));
+          }
 
--- one more in an array
-pub one-more : {A : Type 0} (xs : List A) (i : ℕ) (a : A) → i < length xs → take (i + 1) (set xs i a) ≡ take i xs ++ a ∷ []
-one-more xs i a h = rw (add-one i, take-suc-set xs i a h)
+-- ---- one way through item_from each
 
-pub item-more : (xs : List struct.Item) (i : ℕ) (a : struct.Item) → i < length xs → itemsOf (i + 1) (set xs i a) ≡ itemsOf i xs ++ itemOf a ∷ []
-item-more xs i a h = rw (one-more xs i a h) (map-append itemOf (take i xs) (a ∷ []))
-
--- ---- one triple of a chart
-
-item-no-end : (d : ℕ) (o : Option Stroke) → item d o none ≡ none
+item-no-end : (d : ℕ) (o : Option Stroke) → none ≡ item d o none
 unfolding item
 item-no-end d none = refl
 item-no-end d (some s) = refl
 
-module _ (c : Chart) (t : Triple) where
-  pub no-first-stroke : c .«stroke_count» ≤ t .first → segmentItem (levelsOf c) t ≡ none
-  unfolding segmentItem levelsOf item
-  no-first-stroke h = rw (at-out (c .«stroke_count») (t .first) (c .strokes) h)
+module _ (m n : ℕ) (t u : Triple) (s e : Stroke) where
+  pub from-outside-first : m ≤ t .first → none ≡ itemFrom m n t u s e
+  unfolding itemFrom item
+  from-outside-first h = rw (le-ltb _ _ h)
 
-  pub no-last-stroke : c .«stroke_count» ≤ t .last → segmentItem (levelsOf c) t ≡ none
-  unfolding segmentItem levelsOf
-  no-last-stroke h = rw (at-out (c .«stroke_count») (t .last) (c .strokes) h) (item-no-end (t .direction) _)
+  pub from-outside-last : m ≤ t .last → none ≡ itemFrom m n t u s e
+  unfolding itemFrom
+  from-outside-last h = rw (le-ltb _ _ h) (item-no-end (t .direction) _)
 
-  pub both-strokes :
-      c .«stroke_count» ≤ length (c .strokes) → t .first < c .«stroke_count» → t .last < c .«stroke_count»
-      → segmentItem (levelsOf c) t
-      ≡ some (record {
-        direction = t .direction;
-        start = getD (c .strokes) (t .first) no-stroke .«start_price»;
-        end = getD (c .strokes) (t .last) no-stroke .«end_price»;
-      })
-  unfolding segmentItem levelsOf item
-  both-strokes h f l =
-      rw (
-        at-in (c .«stroke_count») (t .first) (c .strokes) no-stroke f (omega arith),
-        at-in (c .«stroke_count») (t .last) (c .strokes) no-stroke l (omega arith),
-      )
+  pub from-no-first : t .first < m → n ≤ u .first → none ≡ itemFrom m n t u s e
+  unfolding itemFrom item
+  from-no-first h k = rw (lt-ltb _ _ h, le-ltb _ _ k)
 
-  pub no-first-segment : c .«segment_count» ≤ t .first → overStrokes (levelsOf c) t ≡ none
-  unfolding overStrokes levelsOf
-  no-first-segment h = rw (at-out (c .«segment_count») (t .first) (c .segments) h)
+  pub from-no-last : t .last < m → n ≤ u .last → none ≡ itemFrom m n t u s e
+  unfolding itemFrom
+  from-no-last h k = rw (lt-ltb _ _ h, le-ltb _ _ k) (item-no-end (t .direction) _)
 
-  pub no-last-segment : c .«segment_count» ≤ t .last → overStrokes (levelsOf c) t ≡ none
-  unfolding overStrokes levelsOf
-  no-last-segment h = rw (at-out (c .«segment_count») (t .last) (c .segments) h) (go (getElem? (levelsOf c .segments) (t .first)))
-    where
-      go :
-          (o : Option Triple)
-          → andThen o (λ (a : Triple). andThen {A = Triple} {B = Triple} none (λ (z : Triple). some (record { direction = t .direction; first = a .first; last = z .last }))) ≡ none
-      go none = refl
-      go (some a) = refl
+  pub from-there :
+      t .first < m → t .last < m → u .first < n → u .last < n
+      → some (record { direction = t .direction; start = s .«start_price»; end = e .«end_price» }) ≡ itemFrom m n t u s e
+  unfolding itemFrom item
+  from-there a z f l = simp (lt-ltb _ _ a, lt-ltb _ _ z, lt-ltb _ _ f, lt-ltb _ _ l)
 
-  pub both-segments :
-      c .«segment_count» ≤ length (c .segments) → t .first < c .«segment_count» → t .last < c .«segment_count»
-      → overStrokes (levelsOf c) t
-      ≡ some (record {
-        direction = t .direction;
-        first = getD (c .segments) (t .first) no-triple .first;
-        last = getD (c .segments) (t .last) no-triple .last;
-      })
-  unfolding overStrokes levelsOf
-  both-segments h f l =
-      rw (
-        at-in (c .«segment_count») (t .first) (c .segments) no-triple f (omega arith),
-        at-in (c .«segment_count») (t .last) (c .segments) no-triple l (omega arith),
-      )
+-- ---- records read at indices that were made safe
 
--- ---- bigs by way of their spans
+and-same : (b : Bool) → (b && b) ≡ b
+and-same true = refl
+and-same false = refl
 
-or-true : (b : Bool) → (b || true) ≡ true
-or-true true = refl
-or-true false = refl
+-- a level of n records in an array, read at p for i
+held :
+    {A : Type 0} (n k i p : ℕ) (xs : List A) (d : A) → n ≤ length xs → n ≤ suc k → p ≡ min i k
+    → heldIf (ltb i n) (getD xs p d) ≡ getElem? (take n xs) i
+held n k i p xs d long few at-p = by (ltb i n) refl
+  where
+    by : (b : Bool) → ltb i n ≡ b → heldIf b (getD xs p d) ≡ getElem? (take n xs) i
+    by true w =
+        let below = ltb-true i n w in
+        let same : p ≡ i = omega arith in
+        rw same (sym (at-in n i xs d below (omega arith)))
+    by false w = sym (at-out n i xs (ltb-false i n w))
 
-module _ {A : Type 0} (f : Triple → Option Triple) (g h : Triple → Option A) (through : (t : Triple) → h t ≡ andThen (f t) g) where
-  through-lack : (ts : List Triple) → any (λ (t : Triple). isNone (f t)) ts ≡ true → any (λ (t : Triple). isNone (h t)) ts ≡ true
-  through-lack [] e = e
-  through-lack (t ∷ ts) e = go (f t) (h t) (through t) e (through-lack ts)
-    where
-      go :
-          (o : Option Triple) (p : Option A) → p ≡ andThen o g → (isNone o || any (λ (t : Triple). isNone (f t)) ts) ≡ true
-          → (any (λ (t : Triple). isNone (f t)) ts ≡ true → any (λ (t : Triple). isNone (h t)) ts ≡ true)
-          → (isNone p || any (λ (t : Triple). isNone (h t)) ts) ≡ true
-      go none p q e r = rw q
-      go (some u) p q e r = rw (r e) (or-true (isNone p))
+-- the stroke that a segment names, the segment at i being read at p and the stroke at q
+held-through :
+    (m n j k i p q : ℕ) (xs : List Triple) (ys : List Stroke) (f : Triple → ℕ) → m ≤ length xs → m ≤ suc j → n ≤ length ys → n ≤ suc k
+    → p ≡ min i j → q ≡ min (f (getD xs p no-triple)) k
+    → heldIf (ltb i m && ltb (f (getD xs p no-triple)) n) (getD ys q no-stroke)
+    ≡ andThen (getElem? (take m xs) i) (λ (t : Triple). getElem? (take n ys) (f t))
+held-through m n j k i p q xs ys f lx fx ly fy at-p at-q = by (ltb i m) refl
+  where
+    by :
+        (b : Bool) → ltb i m ≡ b
+        → heldIf (b && ltb (f (getD xs p no-triple)) n) (getD ys q no-stroke)
+        ≡ andThen (getElem? (take m xs) i) (λ (t : Triple). getElem? (take n ys) (f t))
+    by false w = rw (at-out m i xs (ltb-false i m w))
+    by true w =
+        let below = ltb-true i m w in
+        let same : i ≡ p = omega arith in
+        rw (same, at-in m p xs no-triple (omega arith) (omega arith)) (held n k (f (getD xs p no-triple)) q ys no-stroke ly fy at-q)
 
-  through-any :
-      (ts : List Triple) → any (λ (t : Triple). isNone (f t)) ts ≡ false
-      → any (λ (t : Triple). isNone (h t)) ts ≡ any (λ (t : Triple). isNone (g t)) (collect f ts)
-  through-any [] e = refl
-  through-any (t ∷ ts) e = go (f t) (h t) (through t) e (through-any ts)
-    where
-      go :
-          (o : Option Triple) (p : Option A) → p ≡ andThen o g → (isNone o || any (λ (t : Triple). isNone (f t)) ts) ≡ false
-          → (any (λ (t : Triple). isNone (f t)) ts ≡ false
-          → any (λ (t : Triple). isNone (h t)) ts ≡ any (λ (t : Triple). isNone (g t)) (collect f ts))
-          → (isNone p || any (λ (t : Triple). isNone (h t)) ts)
-          ≡ any (λ (t : Triple). isNone (g t)) (elim o [ none ↦ collect f ts | some y ↦ y ∷ collect f ts ])
-      go none p q e r = absurd (true≢false e)
-      go (some u) p q e r = rw (q, r e)
+-- ---- the bigs (true) or the segments (false) of a chart
+module _
+    (c : Chart) (strokes : c .«stroke_count» ≤ length (c .strokes)) (segments : c .«segment_count» ≤ length (c .segments))
+    (bigs : c .«big_count» ≤ length (c .bigs))
+  where
+    pub level-length : (b : Bool) → length (levelOf b (levelsOf c)) ≡ cond b (c .«big_count») (c .«segment_count»)
+    unfolding levelsOf
+    level-length true = length-take-le _ (c .bigs) bigs
+    level-length false = length-take-le _ (c .segments) segments
 
-  put-through : (o : Option Triple) (l : List Triple) → collect g (put o l) ≡ put (andThen o g) (collect g l)
-  put-through none l = refl
-  put-through (some u) l = collect-put g u l
+    pub level-at :
+        (b : Bool) (i : ℕ) (t : Triple) → i < cond b (c .«big_count») (c .«segment_count»)
+        → t ≡ cond b (getD (c .bigs) i no-triple) (getD (c .segments) i no-triple) → getElem? (levelOf b (levelsOf c)) i ≡ some t
+    unfolding levelsOf
+    level-at true i t h e = rw e (at-in _ i (c .bigs) no-triple h (omega arith))
+    level-at false i t h e = rw e (at-in _ i (c .segments) no-triple h (omega arith))
 
-  through-collect : (ts : List Triple) → collect h ts ≡ collect g (collect f ts)
-  through-collect [] = refl
-  through-collect (t ∷ ts) =
-      collect-put h t ts
-      ∙ (rw (through t, through-collect ts) (sym (ap (collect g) (collect-put f t ts) ∙ put-through (f t) (collect f ts))))
-
-module _ (c : Levels) where
-  big-through : (t : Triple) → bigItem c t ≡ andThen (overStrokes c t) (segmentItem c)
-  unfolding bigItem overStrokes segmentItem firstStroke lastStroke item
-  big-through t = go (getElem? (c .segments) (t .first)) (getElem? (c .segments) (t .last))
-    where
-      go :
-          (a z : Option Triple)
-          → item (t .direction) (andThen a (λ (s : Triple). getElem? (c .strokes) (s .first))) (andThen z (λ (s : Triple). getElem? (c .strokes) (s .last)))
-          ≡ andThen (andThen a (λ (u : Triple). andThen z (λ (v : Triple). some (record { direction = t .direction; first = u .first; last = v .last })))) (segmentItem c)
-      go none z = refl
-      go (some u) none = item-no-end (t .direction) (getElem? (c .strokes) (u .first))
-      go (some u) (some v) = refl
-
-  module _ (bigs : List Triple) (lacking : Bool) (spans : List Triple) (over : Gathers (overStrokes c) bigs lacking spans) where
-    pub bigs-lacking : (got : List Item) → lacking ≡ true → Gathers (bigItem c) bigs true got
-    bigs-lacking got e =
-        record {
-          lack = sym (through-lack (overStrokes c) (segmentItem c) (bigItem c) big-through bigs (sym (over .lack) ∙ e));
-          are = λ z. absurd (true≢false z);
-        }
-
-    pub bigs-there :
-        lacking ≡ false → (lack : Bool) (got : List Item) → Gathers (segmentItem c) spans lack got → Gathers (bigItem c) bigs lack got
-    bigs-there e lack got g =
-        record {
-          lack =
-              g .lack
-              ∙ (rw (through-any (overStrokes c) (segmentItem c) (bigItem c) big-through bigs (sym (over .lack) ∙ e), over .are e));
-          are = λ z. g .are z ∙ (rw (through-collect (overStrokes c) (segmentItem c) (bigItem c) big-through bigs, over .are e));
-        }
+    -- the item by such records is the record's: m records are in the level below that of t, and u is t over strokes
+    pub item-read :
+        (b : Bool) (m p q f l : ℕ) (t u : Triple) → c .«segment_count» ≤ 256 → c .«stroke_count» ≤ 512
+        → m ≡ cond b (c .«segment_count») (c .«stroke_count») → p ≡ min (t .first) 255 → q ≡ min (t .last) 255
+        → u
+        ≡ cond b
+        (record {
+          direction = t .direction;
+          first = getD (c .segments) p no-triple .first;
+          last = getD (c .segments) q no-triple .last;
+        })
+        t
+        → f ≡ min (u .first) 511 → l ≡ min (u .last) 511
+        → itemFrom m (c .«stroke_count») t u (getD (c .strokes) f no-stroke) (getD (c .strokes) l no-stroke) ≡ itemIn b (levelsOf c) t
+    unfolding itemFrom levelsOf segmentItem bigItem firstStroke lastStroke
+    item-read true m p q f l t u few-g few-s em ep eq eu ef el =
+        let first : u .first ≡ getD (c .segments) p no-triple .first = ap (λ (w : Triple). w .first) eu in
+        let last : u .last ≡ getD (c .segments) q no-triple .last = ap (λ (w : Triple). w .last) eu in
+        rw (
+          em,
+          first,
+          last,
+          held-through _ (c .«stroke_count») 255 511 (t .first) p f (c .segments) (c .strokes) (λ (w : Triple). w .first) segments few-g strokes few-s ep (rw first at ef),
+          held-through _ (c .«stroke_count») 255 511 (t .last) q l (c .segments) (c .strokes) (λ (w : Triple). w .last) segments few-g strokes few-s eq (rw last at el),
+        )
+    item-read false m p q f l t u few-g few-s em ep eq eu ef el =
+        let first : u .first ≡ t .first = ap (λ (w : Triple). w .first) eu in
+        let last : u .last ≡ t .last = ap (λ (w : Triple). w .last) eu in
+        rw (
+          em,
+          first,
+          last,
+          and-same (ltb (t .first) (c .«stroke_count»)),
+          and-same (ltb (t .last) (c .«stroke_count»)),
+          held _ 511 (t .first) f (c .strokes) no-stroke strokes few-s (rw first at ef),
+          held _ 511 (t .last) l (c .strokes) no-stroke strokes few-s (rw last at el),
+        )

@@ -19,21 +19,16 @@ use Rattle.rules.specs.Calls.{segmentClassesCall, bigClassesCall}
 use Rattle.rules.specs.Classes.{Item, segmentItem, bigItem, walk, extendAll, classes, segmentClasses, bigClasses}
 use Rattle.laws.proofs.Answers.{given-rows, on-bad, on-good}
 use Rattle.laws.proofs.Lists.{collect-length}
-use Rattle.classes.specs.declared.Item as struct
 use Rattle.classes.specs.declared.Rows.{Rows}
-use Rattle.classes.specs.Items.{itemsOf, Holds, Gathers}
-use Rattle.classes.proofs.Items.{items-length}
+use Rattle.classes.specs.Items.{Holds, Gathers}
 
 pub classes-given :
-    (on : Bool) (n : ℕ) (xs : List struct.Item) (found all : Rows) → 1 < n → n ≤ length xs
-    → Holds found (walk on (itemsOf n xs) none 0 0 (itemsOf n xs))
-    → Holds all (extendAll (itemsOf n xs) (take (found .count) (found .rows))) → length (all .rows) ≡ 256
-    → rowsAnswer 0 (all .count) (all .rows) ≡ given (classes on (itemsOf n xs))
+    (on : Bool) (items : List Item) (found all : Rows) → 1 < length items → Holds found (walk on items none 0 0 items)
+    → Holds all (extendAll items (take (found .count) (found .rows))) → length (all .rows) ≡ 256
+    → rowsAnswer 0 (all .count) (all .rows) ≡ given (classes on items)
 unfolding classes
-classes-given on n xs found all more few w e long =
-    let two : 2 ≤ length (itemsOf n xs) = omega (arith, items-length n 0 xs few) in
-    given-rows (all .rows) (all .count) (omega (arith, e .few))
-    ∙ (rw (e .are, w .are, le-ltb (length (itemsOf n xs)) 2 two))
+classes-given on items found all more w e long =
+    given-rows (all .rows) (all .count) (omega (arith, e .few)) ∙ (rw (e .are, w .are, le-ltb (length items) 2 (omega arith)))
 
 -- ---- one way through the end of a call each, its answer being a
 module _ (f : Triple → Option Item) (ts : List Triple) (byte n : ℕ) (size : length ts ≡ n) (a : Answer (List Class)) where

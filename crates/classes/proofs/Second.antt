@@ -1,23 +1,39 @@
--- Case 2: the definition at the next item, one law for each way through the code's loop. Assumes nothing.
-use Prim.Native.Nat.{ℕ, _+_, _<_, _≤_}
+-- Comparisons in a direction by one of two prices, and case 2: the definition at the next item, one law for each way through the code's loop.
+-- Assumes nothing.
+use Prim.Native.Nat.{ℕ, _+_, _≤_}
 use native.Mathlib.Numerals.{add-one}
-use mathlib.Core.Path.{_≡_, sym, _∙_}
-use mathlib.Core.Bool.{true, false}
+use mathlib.Core.Path.{_≡_, refl, sym, _∙_}
+use mathlib.Core.Bool.{Bool, true, false, cond}
 use mathlib.Core.List.{List, _∷_}
 use mathlib.Core.Option.{Option, none, some}
-use lib.ListN.{length, getD, drop}
-use lib.Ieee.{Float}
+use lib.ListN.{length, getElem?, drop, drop-of-length-le}
+use lib.Ieee.{Float, lt, le}
 use borrow.Author.Tests.{eq-eqb, ne-eqb}
-use Rattle.rules.specs.Classes.{Item, atOrShort, beyond, case2From, case2}
-use Rattle.classes.specs.declared.Item as struct
-use Rattle.classes.specs.Items.{itemOf, itemsOf}
-use Rattle.classes.proofs.Items.{no-item, items-at, items-more, items-none}
+use Rattle.rules.specs.Records.{isUp}
+use Rattle.rules.specs.Classes.{Item, atOrBeyond, atOrShort, beyond, case2From, case2}
+use Rattle.classes.proofs.Items.{left-from}
+
+-- a comparison of p with q, which are b and a for up, a and b for down
+module _ (d : ℕ) (a b p q : Float) (e : p ≡ cond (isUp d) b a) (g : q ≡ cond (isUp d) a b) where
+  compared : (f : Float → Float → Bool) → f p q ≡ cond (isUp d) (f b a) (f a b)
+  compared f = rw (e, g) (by (isUp d))
+    where
+      by : (u : Bool) → f (cond u b a) (cond u a b) ≡ cond u (f b a) (f a b)
+      by true = refl
+      by false = refl
+
+  pub compared-beyond : lt p q ≡ beyond d a b
+  unfolding beyond
+  compared-beyond = compared lt
+
+  pub compared-at-or-beyond : le p q ≡ atOrBeyond d a b
+  unfolding atOrBeyond
+  compared-at-or-beyond = compared le
 
 pub second-begins :
-    (n i : ℕ) (xs : List struct.Item) → i < n → n ≤ length xs
-    → case2From (itemOf (getD xs i no-item)) (getD xs i no-item .end) (i + 1) (drop (i + 1) (itemsOf n xs)) ≡ case2 (itemsOf n xs) i
+    (items : List Item) (i : ℕ) (x : Item) → getElem? items i ≡ some x → case2From x (x .end) (i + 1) (drop (i + 1) items) ≡ case2 items i
 unfolding case2
-second-begins n i xs h k = rw (items-at n i xs h k, add-one i)
+second-begins items i x e = rw (e, add-one i)
 
 module _ (x y : Item) (top : Float) (j : ℕ) (ys : List Item) where
   from-other : (y .direction ≡ x .direction → ⊥) → case2From x top j (y ∷ ys) ≡ case2From x top (j + 1) ys
@@ -41,33 +57,27 @@ module _ (x y : Item) (top : Float) (j : ℕ) (ys : List Item) where
   from-next d s b = rw (case2From, eq-eqb _ _ d, s, b, add-one j)
 
 -- x is the item whose case 2 is sought, and item j the next
-module _
-    (n j : ℕ) (xs : List struct.Item) (x : struct.Item) (top : Float) (goal : Option ℕ) (k : n ≤ length xs)
-    (left : case2From (itemOf x) top j (drop j (itemsOf n xs)) ≡ goal)
-  where
-    pub second-over : n ≤ j → none ≡ goal
-    unfolding case2From
-    second-over h = rw (items-none n j xs h k) at left
+module _ (items : List Item) (j : ℕ) (x : Item) (top : Float) (goal : Option ℕ) (left : case2From x top j (drop j items) ≡ goal) where
+  pub second-over : length items ≤ j → none ≡ goal
+  unfolding case2From
+  second-over h = rw (drop-of-length-le items {i = j} h) at left
 
-    module _ (h : j < n) where
-      abbrev y : Item
-      y = itemOf (getD xs j no-item)
+  module _ (y : Item) (there : getElem? items j ≡ some y) where
+    abbrev ys : List Item
+    ys = drop (j + 1) items
 
-      abbrev ys : List Item
-      ys = drop (j + 1) (itemsOf n xs)
+    here : case2From x top j (y ∷ ys) ≡ goal
+    here = rw (left-from items j y there) at left
 
-      here : case2From (itemOf x) top j (y ∷ ys) ≡ goal
-      here = rw (items-more n j xs h k) at left
+    pub second-other : (y .direction ≡ x .direction → ⊥) → case2From x top (j + 1) ys ≡ goal
+    second-other d = sym (from-other x y top j ys d) ∙ here
 
-      pub second-other : (y .direction ≡ x .direction → ⊥) → case2From (itemOf x) top (j + 1) ys ≡ goal
-      second-other d = sym (from-other (itemOf x) y top j ys d) ∙ here
+    pub second-fails : y .direction ≡ x .direction → atOrShort (x .direction) (y .start) (x .start) ≡ true → none ≡ goal
+    second-fails d s = sym (from-fails x y top j ys d s) ∙ here
 
-      pub second-fails : y .direction ≡ x .direction → atOrShort (x .direction) (y .start) (x .start) ≡ true → none ≡ goal
-      second-fails d s = sym (from-fails (itemOf x) y top j ys d s) ∙ here
+    module _ (d : y .direction ≡ x .direction) (s : atOrShort (x .direction) (y .start) (x .start) ≡ false) where
+      pub second-ends : beyond (x .direction) (y .end) top ≡ true → some j ≡ goal
+      second-ends b = sym (from-ends x y top j ys d s b) ∙ here
 
-      module _ (d : y .direction ≡ x .direction) (s : atOrShort (x .direction) (y .start) (x .start) ≡ false) where
-        pub second-ends : beyond (x .direction) (y .end) top ≡ true → some j ≡ goal
-        second-ends b = sym (from-ends (itemOf x) y top j ys d s b) ∙ here
-
-        pub second-next : beyond (x .direction) (y .end) top ≡ false → case2From (itemOf x) (y .end) (j + 1) ys ≡ goal
-        second-next b = sym (from-next (itemOf x) y top j ys d s b) ∙ here
+      pub second-next : beyond (x .direction) (y .end) top ≡ false → case2From x (y .end) (j + 1) ys ≡ goal
+      second-next b = sym (from-next x y top j ys d s b) ∙ here

@@ -5,8 +5,7 @@ use mathlib.Core.Path.{_≡_, refl, sym, _∙_}
 use mathlib.Core.Bool.{Bool, true, false, _&&_}
 use mathlib.Core.List.{List, [], _∷_, _++_, append-assoc, append-nil}
 use mathlib.Core.Option.{Option, none, some}
-use lib.ListN.{length, getD, set, take, drop}
-use lib.Seq.{take-suc-set}
+use lib.ListN.{length, getElem?, set, take, drop, drop-of-length-le}
 use lib.Dec.{leb}
 use Rattle.chart.specs.declared.Class.{Class}
 use Rattle.rules.specs.Classes.{Item, wanted, tried, walk}
@@ -16,8 +15,8 @@ use Rattle.classes.specs.declared.Last.{Last}
 use Rattle.classes.specs.declared.Last.the-variants.{Begin, After}
 use Rattle.classes.specs.declared.NewClass.{NewClass}
 use Rattle.classes.specs.declared.NewClass.the-variants.{Found, Nothing}
-use Rattle.classes.specs.Items.{itemOf, itemsOf, Case2, Stands, Wanted, Begins, Tries}
-use Rattle.classes.proofs.Items.{no-item, items-at, items-more, items-none}
+use Rattle.classes.specs.Items.{itemOf, Case2, Stands, Wanted, Begins, Tries}
+use Rattle.classes.proofs.Items.{left-from}
 
 -- ---- the definition at the next item
 module _ (on : Bool) (items : List Item) (k : Option Class) (next i : ℕ) (x : Item) (xs : List Item) where
@@ -45,64 +44,55 @@ pub record Carries (on : Bool) (items : List Item) (l : Last) (next i : ℕ) (do
 pub carries-first : (on : Bool) (items : List Item) → Carries on items Begin 0 0 [] (walk on items none 0 0 items)
 carries-first on items = record { k = none; stands = tt; rest = refl }
 
-module _
-    (on : Bool) (n i : ℕ) (xs : List struct.Item) (l : Last) (next : ℕ) (done goal : List Class) (all : n ≤ length xs)
-    (c : Carries on (itemsOf n xs) l next i done goal)
-  where
-    pub carries-all : n ≤ i → done ≡ goal
-    unfolding walk
-    carries-all h = sym (append-nil done) ∙ (rw (items-none n i xs h all) at (c .rest))
+module _ (on : Bool) (items : List Item) (i : ℕ) (l : Last) (next : ℕ) (done goal : List Class) (c : Carries on items l next i done goal) where
+  pub carries-all : length items ≤ i → done ≡ goal
+  unfolding walk
+  carries-all h = sym (append-nil done) ∙ (rw (drop-of-length-le items {i = i} h) at (c .rest))
 
-    module _ (h : i < n) (w b : Bool) (wants : Wanted l (getD xs i no-item) w) (tests : b ≡ (leb next i && w)) where
-      abbrev x : Item
-      x = itemOf (getD xs i no-item)
-
+  -- x is item i, and b tells whether it is tried
+  module _
+      (x : struct.Item) (there : getElem? items i ≡ some (itemOf x)) (w b : Bool) (wants : Wanted l x w) (tests : b ≡ (leb next i && w))
+    where
       abbrev left : List Item
-      left = drop (i + 1) (itemsOf n xs)
+      left = drop (i + 1) items
 
-      tested : (leb next i && wanted (c .k) x) ≡ b
-      tested = rw (tests, wants (itemsOf n xs) (c .k) (c .stands))
+      tested : (leb next i && wanted (c .k) (itemOf x)) ≡ b
+      tested = rw (tests, wants items (c .k) (c .stands))
 
-      here : done ++ walk on (itemsOf n xs) (c .k) next i (x ∷ left) ≡ goal
-      here = rw (items-more n i xs h all) at (c .rest)
+      here : done ++ walk on items (c .k) next i (itemOf x ∷ left) ≡ goal
+      here = rw (left-from items i (itemOf x) there) at (c .rest)
 
-      pub carries-pass : b ≡ false → Carries on (itemsOf n xs) l next (i + 1) done goal
+      pub carries-pass : b ≡ false → Carries on items l next (i + 1) done goal
       carries-pass e =
-          record { k = c .k; stands = c .stands; rest = rw (walk-pass on (itemsOf n xs) (c .k) next i x left (tested ∙ e)) at here }
+          record { k = c .k; stands = c .stands; rest = rw (walk-pass on items (c .k) next i (itemOf x) left (tested ∙ e)) at here }
 
-      module _ (end : End) (second : Case2 (itemsOf n xs) n i end) (r : NewClass) (tries : Tries on l i (getD xs i no-item) end r) (e : b ≡ true) where
-        pub carries-none : r ≡ Nothing → Carries on (itemsOf n xs) l next (i + 1) done goal
+      module _ (n : ℕ) (h : i < n) (end : End) (second : Case2 items n i end) (r : NewClass) (tries : Tries on l i x end r) (e : b ≡ true) where
+        pub carries-none : r ≡ Nothing → Carries on items l next (i + 1) done goal
         carries-none f =
-            let t : tried on (itemsOf n xs) (c .k) i x ≡ none = sym (rw f at (tries .same (itemsOf n xs) (c .k) (c .stands) (second .same))) in
-            record { k = c .k; stands = c .stands; rest = rw (walk-none on (itemsOf n xs) (c .k) next i x left (tested ∙ e) t) at here }
+            let t : tried on items (c .k) i (itemOf x) ≡ none = sym (rw f at (tries .same items (c .k) (c .stands) (second .same))) in
+            record { k = c .k; stands = c .stands; rest = rw (walk-none on items (c .k) next i (itemOf x) left (tested ∙ e) t) at here }
 
         -- a class that was found begins here, in the direction of the item, and ends among the items
-        pub carries-begins : (m : Class) → r ≡ Found m → Begins n i (getD xs i no-item) (Found m)
+        pub carries-begins : (m : Class) → r ≡ Found m → Begins n i x (Found m)
         carries-begins m f = rw f at (tries .begins n h (second .among))
 
         pub carries-some :
             (m : Class) → r ≡ Found m
-            → Carries on (itemsOf n xs)
-            (After (record { direction = getD xs i no-item .direction; start = getD xs i no-item .start; end = end }))
-            (m .last + 1) (i + 1) (done ++ m ∷ []) goal
+            → Carries on items (After (record { direction = x .direction; start = x .start; end = end })) (m .last + 1) (i + 1) (done ++ m ∷ []) goal
         carries-some m f =
-            let t : tried on (itemsOf n xs) (c .k) i x ≡ some m = sym (rw f at (tries .same (itemsOf n xs) (c .k) (c .stands) (second .same))) in
+            let t : tried on items (c .k) i (itemOf x) ≡ some m = sym (rw f at (tries .same items (c .k) (c .stands) (second .same))) in
             let g = carries-begins m f in
             record {
               k = some m;
               stands =
                   record {
-                    opening = x;
-                    there = rw (g .0) (items-at n i xs h all);
+                    opening = itemOf x;
+                    there = rw (g .0) there;
                     start = refl;
                     way = g .1;
                     second = rw (g .0) (sym (second .same));
                   };
               rest =
-                  append-assoc done (m ∷ []) (walk on (itemsOf n xs) (some m) (m .last + 1) (i + 1) left)
-                  ∙ (rw (walk-some on (itemsOf n xs) (c .k) next i x left m (tested ∙ e) t) at here);
+                  append-assoc done (m ∷ []) (walk on items (some m) (m .last + 1) (i + 1) left)
+                  ∙ (rw (walk-some on items (c .k) next i (itemOf x) left m (tested ∙ e) t) at here);
             }
-
--- one row more
-pub row-more : (rows : List Class) (count : ℕ) (m : Class) → count < length rows → take (count + 1) (set rows count m) ≡ take count rows ++ m ∷ []
-row-more rows count m h = rw (add-one count, take-suc-set rows count m h)

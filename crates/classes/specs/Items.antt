@@ -1,18 +1,21 @@
 -- What the structs of this crate stand for in the definitions of classes. Assumes nothing.
-use Prim.Native.Nat.{ℕ, _<_, _≤_}
+use Prim.Native.Nat.{ℕ, zero, suc, _<_, _≤_}
 use mathlib.Core.Path.{_≡_}
-use mathlib.Core.Bool.{Bool, false}
-use mathlib.Core.List.{List, map}
+use mathlib.Core.Bool.{Bool, true, false, _&&_}
+use mathlib.Core.List.{List, [], _∷_, _++_}
 use mathlib.Core.Option.{Option, none, some}
-use lib.ListN.{length, take, getElem?}
-use lib.Dec.{eqb}
+use lib.ListN.{length, getD, getElem?, take}
+use lib.Dec.{eqb, ltb}
+use lib.Ieee.{Float, nan}
+use Rattle.chart.specs.declared.Stroke.{Stroke}
 use Rattle.chart.specs.declared.Triple.{Triple}
 use Rattle.chart.specs.declared.Class.{Class}
 use Rattle.rules.specs.Answer.{rowsAnswer, answered}
-use Rattle.rules.specs.Lists.{any, isNone, andThen, collect}
+use Rattle.rules.specs.Lists.{any, isNone, collect}
 use Rattle.rules.specs.Records.{Levels}
 use Rattle.rules.specs.Refusals.{refuse, aboveOne, lacks}
-use Rattle.rules.specs.Classes.{Item, case2, case3, endsBefore, wanted, tried, classes}
+use Rattle.rules.specs.Classes.{Item, item, segmentItem, bigItem, case2, case3, endsBefore, wanted, tried, classes}
+use Rattle.levels.specs.Read.{heldIf}
 use Rattle.classes.specs.declared.Item as struct
 use Rattle.classes.specs.declared.End.{End}
 use Rattle.classes.specs.declared.End.the-variants.{At, Nowhere}
@@ -22,15 +25,22 @@ use Rattle.classes.specs.declared.Last.the-variants.{Begin, After}
 use Rattle.classes.specs.declared.NewClass.{NewClass}
 use Rattle.classes.specs.declared.NewClass.the-variants.{Found, Nothing}
 use Rattle.classes.specs.declared.Rows.{Rows}
+use Rattle.classes.specs.declared.ItemRead.{ItemRead}
+use Rattle.classes.specs.declared.ItemRead.the-variants.{There, Lacking}
 use Rattle.classes.specs.declared.Gathered.{Gathered}
 use Rattle.classes.specs.declared.ClassRows.{ClassRows}
 
 abbrev pub itemOf : struct.Item → Item
 itemOf x = record { direction = x .direction; start = x .start; end = x .end }
 
--- the first n places of an array
-abbrev pub itemsOf : ℕ → List struct.Item → List Item
-itemsOf n xs = map itemOf (take n xs)
+-- item i of three columns: directions, start prices and end prices
+unfoldable pub itemAt : List ℕ → List Float → List Float → ℕ → Item
+itemAt ds ss es i = record { direction = getD ds i 0; start = getD ss i nan; end = getD es i nan }
+
+-- the first n items of them
+unfoldable pub itemsOf : ℕ → List ℕ → List Float → List Float → List Item
+itemsOf zero ds ss es = []
+itemsOf (suc n) ds ss es = itemsOf n ds ss es ++ itemAt ds ss es n ∷ []
 
 abbrev pub endOf : End → Option ℕ
 endOf (At e) = some e
@@ -101,21 +111,33 @@ pub record Holds (r : Rows) (l : List Class) : Type 0 where
 
 -- ---- items of a level
 
+-- the records of the bigs (true) or of the segments (false), and the item of one
+abbrev pub levelOf : Bool → Levels → List Triple
+levelOf true c = c .bigs
+levelOf false c = c .segments
+
+abbrev pub itemIn : Bool → Levels → Triple → Option Item
+itemIn true c = bigItem c
+itemIn false c = segmentItem c
+
+-- Of the record t over a level of m records in a chart of n strokes, where u is t over strokes, s and e the strokes at u's first and last.
+-- A record counts only where its index is below its number
+unfoldable pub itemFrom : ℕ → ℕ → Triple → Triple → Stroke → Stroke → Option Item
+itemFrom m n t u s e =
+    item (t .direction) (heldIf (ltb (t .first) m && ltb (u .first) n) s) (heldIf (ltb (t .last) m && ltb (u .last) n) e)
+
+abbrev pub readOf : ItemRead → Option Item
+readOf (There x) = some (itemOf x)
+readOf Lacking = none
+
 -- the answers of f to ts: whether one is not there, and where none is missing all of them
 pub record Gathers {A : Type 0} (f : Triple → Option A) (ts : List Triple) (lacking : Bool) (got : List A) : Type 0 where
   pub lack : lacking ≡ any (λ (t : Triple). isNone (f t)) ts
   pub are : lacking ≡ false → got ≡ collect f ts
 
--- a big as a triple over strokes: from the first stroke of its first segment to the last of its last
-unfoldable pub overStrokes : Levels → Triple → Option Triple
-overStrokes c b =
-    andThen (getElem? (c .segments) (b .first))
-    (λ (a : Triple). andThen (getElem? (c .segments) (b .last))
-    (λ (z : Triple). some (record { direction = b .direction; first = a .first; last = z .last })))
-
 -- the answer r to n items that were gathered, with the case-3 byte, behind 21
 abbrev pub Ends : Gathered → ℕ → ℕ → ClassRows → Type 0
 Ends g n byte r =
-    (f : Triple → Option Item) (ts : List Triple) → length ts ≡ n → Gathers f ts (g .lacking) (itemsOf n (g .items))
+    (f : Triple → Option Item) (ts : List Triple) → length ts ≡ n → Gathers f ts (g .lacking) (itemsOf n (g .directions) (g .starts) (g .ends))
     → rowsAnswer (r .number) (r .count) (r .rows)
     ≡ answered (refuse (aboveOne byte) 2 (refuse (lacks f ts) 10 0)) (classes (eqb byte 1) (collect f ts))

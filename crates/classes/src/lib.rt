@@ -1,18 +1,19 @@
 // Classes of segments and of bigs: one rule over items, for two levels.
 use chart::Chart;
 use chart::Class;
+use chart::Stroke;
 use chart::Triple;
 ghost use mathlib.Core.Path.{_≡_};
-ghost use mathlib.Core.Bool.{_&&_};
+ghost use mathlib.Core.Bool.{cond, _&&_};
 ghost use mathlib.Core.Option.{none};
 ghost use Prim.Native.Nat.{_<_, _≤_, min};
 ghost use lib.Dec.{eqb};
 ghost use lib.ListN.{take};
 ghost use Rattle.rules.specs.Answer.{rowsAnswer, given, refused};
-ghost use Rattle.rules.specs.Records.{levelsOf};
-ghost use Rattle.rules.specs.Classes.{beyond, atOrBeyond, atOrShort, walk, moved, extend, extendAll, classes, segmentItem, bigItem};
+ghost use Rattle.rules.specs.Records.{isUp, levelsOf};
+ghost use Rattle.rules.specs.Classes.{beyond, atOrBeyond, atOrShort, walk, moved, extend, extendAll, classes};
 ghost use Rattle.rules.specs.Calls.{segmentClassesCall, bigClassesCall};
-ghost use Rattle.classes.specs.Items.{itemsOf, Case2, Wanted, Case3, EndsBefore, Tries, Holds, Gathers, overStrokes, Ends};
+ghost use Rattle.classes.specs.Items.{itemOf, itemAt, itemsOf, Case2, Wanted, Case3, EndsBefore, Tries, Holds, levelOf, itemIn, itemFrom, readOf, Gathers, Ends};
 
 // The answer of a class call: a number, and where it is 0 the first `count` rows.
 pub struct ClassRows {
@@ -28,26 +29,48 @@ pub struct Item {
     pub end: f64,
 }
 
+// Item i of three columns. Columns can be lent; an array of items would be copied for each one that is tried.
+fn item_at<'a>(
+    directions: &'a [u8; 256],
+    starts: &'a [f64; 256],
+    ends: &'a [f64; 256],
+    i: u16,
+) -> Item
+    requires { ⌜ i < 256 ⌝ }
+    ensures { λ r. ⌜ itemOf r ≡ itemAt (now (directions .entry)) (now (starts .entry)) (now (ends .entry)) i ⌝ }
+{
+    let k = i as usize;
+    Item {
+        direction: directions[k],
+        start: starts[k],
+        end: ends[k],
+    }
+}
+
 // ---- comparisons in a direction: up as they stand, down mirrored
 
-// a > b
-fn beyond(d: u8, a: f64, b: f64) -> bool
-    ensures { λ r. ⌜ r ≡ beyond d a b ⌝ }
+// One price for up, another for down: so a comparison is one for both directions. With two and a branch, a scan made both for each item.
+fn by_direction(d: u8, up: f64, down: f64) -> f64
+    ensures { λ r. ⌜ r ≡ cond (isUp d) up down ⌝ }
 {
     if d == 1 {
-        return b < a;
+        return up;
     }
-    a < b
+    down
+}
+
+// a > b
+pub fn beyond(d: u8, a: f64, b: f64) -> bool
+    ensures { λ r. ⌜ r ≡ beyond d a b ⌝ }
+{
+    by_direction(d, b, a) < by_direction(d, a, b)
 }
 
 // a ≥ b
 fn at_or_beyond(d: u8, a: f64, b: f64) -> bool
     ensures { λ r. ⌜ r ≡ atOrBeyond d a b ⌝ }
 {
-    if d == 1 {
-        return b <= a;
-    }
-    a <= b
+    by_direction(d, b, a) <= by_direction(d, a, b)
 }
 
 // a ≤ b
@@ -67,23 +90,31 @@ enum End {
 
 // Case 2 of item i of n takes the later items of its direction in order, `top` being the end of the one before: one that starts at or short
 // of its start fails it, one that ends beyond `top` is the end.
-fn case2(items: [Item; 256], n: u16, i: u16) -> End
+fn case2<'a>(
+    directions: &'a [u8; 256],
+    starts: &'a [f64; 256],
+    ends: &'a [f64; 256],
+    n: u16,
+    i: u16,
+) -> End
     requires { ⌜ (i < n) × (n ≤ 256) ⌝ }
-    ensures { λ r. ⌜ Case2 (itemsOf n items) n i r ⌝ }
+    ensures { λ r. ⌜ Case2 (itemsOf n (now (directions .entry)) (now (starts .entry)) (now (ends .entry))) n i r ⌝ }
 {
-    let x = items[i as usize];
+    let x = item_at(directions, starts, ends, i);
     let mut top = x.end;
     let mut j = i + 1;
     while j < n {
-        let y = items[j as usize];
+        let y = item_at(directions, starts, ends, j);
         if y.direction != x.direction {
             j += 1;
             continue;
         }
-        if at_or_short(x.direction, y.start, x.start) {
+        let fails = at_or_short(x.direction, y.start, x.start);
+        let ended = beyond(x.direction, y.end, top);
+        if fails {
             return End::Nowhere;
         }
-        if beyond(x.direction, y.end, top) {
+        if ended {
             return End::At(j);
         }
         top = y.end;
@@ -207,9 +238,15 @@ const NO_CLASS: Class = Class {
 };
 
 // The walk over n items: after a class it goes on behind its end, at `next`.
-fn walk(items: [Item; 256], n: u16, on: bool) -> Rows
+fn walk<'a>(
+    directions: &'a [u8; 256],
+    starts: &'a [f64; 256],
+    ends: &'a [f64; 256],
+    n: u16,
+    on: bool,
+) -> Rows
     requires { ⌜ n ≤ 256 ⌝ }
-    ensures { λ r. ⌜ Holds r (walk on (itemsOf n items) none 0 0 (itemsOf n items)) ⌝ }
+    ensures { λ r. ⌜ Holds r (walk on (itemsOf n (now (directions .entry)) (now (starts .entry)) (now (ends .entry))) none 0 0 (itemsOf n (now (directions .entry)) (now (starts .entry)) (now (ends .entry)))) ⌝ }
 {
     let mut rows = [NO_CLASS; 256];
     let mut count = 0u16;
@@ -217,13 +254,13 @@ fn walk(items: [Item; 256], n: u16, on: bool) -> Rows
     let mut next = 0u16;
     let mut i = 0u16;
     while i < n {
-        let x = items[i as usize];
+        let x = item_at(directions, starts, ends, i);
         let now = wanted(last, x);
         if !both(next <= i, now) {
             i += 1;
             continue;
         }
-        let end = case2(items, n, i);
+        let end = case2(directions, starts, ends, n, i);
         let found = tried(on, last, i, x, end);
         let NewClass::Found(k) = found else {
             i += 1;
@@ -275,21 +312,28 @@ fn at_most(n: u16, m: u16) -> u16
 
 // A class extended over the items behind its end and before item `stop`. Its last item is always there, and `stop` among the n items;
 // both are tested here, so that no row has to be known.
-fn extend(items: [Item; 256], n: u16, stop: u16, k: Class) -> Class
+fn extend<'a>(
+    directions: &'a [u8; 256],
+    starts: &'a [f64; 256],
+    ends: &'a [f64; 256],
+    n: u16,
+    stop: u16,
+    k: Class,
+) -> Class
     requires { ⌜ n ≤ 256 ⌝ }
-    ensures { λ r. ⌜ r ≡ extend (itemsOf n items) stop k ⌝ }
+    ensures { λ r. ⌜ r ≡ extend (itemsOf n (now (directions .entry)) (now (starts .entry)) (now (ends .entry))) stop k ⌝ }
 {
     let last = k.last;
     if n <= last {
         return k;
     }
     let end = at_most(stop, n);
-    let x = items[last as usize];
+    let x = item_at(directions, starts, ends, last);
     let mut price = x.end;
     let mut r = k;
     let mut at = last + 1;
     while at < end {
-        let y = items[at as usize];
+        let y = item_at(directions, starts, ends, at);
         if !reaches(r, y, price) {
             at += 1;
             continue;
@@ -302,9 +346,15 @@ fn extend(items: [Item; 256], n: u16, stop: u16, k: Class) -> Class
 }
 
 // Each class extended up to the next one's start, the last over all that follow: from the last class to the first, whose starts stay.
-fn extend_all(items: [Item; 256], n: u16, found: Rows) -> Rows
+fn extend_all<'a>(
+    directions: &'a [u8; 256],
+    starts: &'a [f64; 256],
+    ends: &'a [f64; 256],
+    n: u16,
+    found: Rows,
+) -> Rows
     requires { ⌜ (n ≤ 256) × (found .count ≤ 256) ⌝ }
-    ensures { λ r. ⌜ Holds r (extendAll (itemsOf n items) (take (found .count) (found .rows))) ⌝ }
+    ensures { λ r. ⌜ Holds r (extendAll (itemsOf n (now (directions .entry)) (now (starts .entry)) (now (ends .entry))) (take (found .count) (found .rows))) ⌝ }
 {
     let count = found.count;
     let mut rows = found.rows;
@@ -313,7 +363,7 @@ fn extend_all(items: [Item; 256], n: u16, found: Rows) -> Rows
     while 0 < c {
         c -= 1;
         let k = rows[c as usize];
-        rows[c as usize] = extend(items, n, stop, k);
+        rows[c as usize] = extend(directions, starts, ends, n, stop, k);
         stop = k.first;
     }
     Rows { count, rows }
@@ -322,12 +372,18 @@ fn extend_all(items: [Item; 256], n: u16, found: Rows) -> Rows
 // ---- one rule, two levels
 
 // The classes of n items, of which there are two at least.
-fn classes_of(items: [Item; 256], n: u16, on: bool) -> ClassRows
+fn classes_of<'a>(
+    directions: &'a [u8; 256],
+    starts: &'a [f64; 256],
+    ends: &'a [f64; 256],
+    n: u16,
+    on: bool,
+) -> ClassRows
     requires { ⌜ (1 < n) × (n ≤ 256) ⌝ }
-    ensures { λ r. ⌜ rowsAnswer (r .number) (r .count) (r .rows) ≡ given (classes on (itemsOf n items)) ⌝ }
+    ensures { λ r. ⌜ rowsAnswer (r .number) (r .count) (r .rows) ≡ given (classes on (itemsOf n (now (directions .entry)) (now (starts .entry)) (now (ends .entry)))) ⌝ }
 {
-    let found = walk(items, n, on);
-    let all = extend_all(items, n, found);
+    let found = walk(directions, starts, ends, n, on);
+    let all = extend_all(directions, starts, ends, n, found);
     let rows = all.rows;
     ClassRows {
         number: 0,
@@ -338,119 +394,113 @@ fn classes_of(items: [Item; 256], n: u16, on: bool) -> ClassRows
 
 // ---- items of a level
 
-// Items in the first places of the array; lacking, where a record that one of them needs is not there.
+// Items in the first places of three columns; lacking, where a record that one of them needs is not there.
 struct Gathered {
     lacking: bool,
-    items: [Item; 256],
+    directions: [u8; 256],
+    starts: [f64; 256],
+    ends: [f64; 256],
 }
 
-// Bigs as triples over strokes, in the same way.
-struct Spans {
-    lacking: bool,
-    spans: [Triple; 256],
-}
-
-const NO_ITEM: Item = Item {
-    direction: 0,
-    start: 0.0,
-    end: 0.0,
-};
-
-const NO_TRIPLE: Triple = Triple {
-    direction: 0,
-    first: 0,
-    last: 0,
-};
-
-// The items of the first n triples over the strokes of a chart.
-fn items_of(chart: Chart, triples: [Triple; 256], n: u16) -> Gathered
-    requires { ⌜ (chart .«stroke_count» ≤ 512) × (n ≤ 256) ⌝ }
-    ensures { λ r. ⌜ Gathers (segmentItem (levelsOf chart)) (take n triples) (r .lacking) (itemsOf n (r .items)) ⌝ }
+// The record, or the count, of the level that is asked for.
+fn chosen(bigs: bool, big: Triple, segment: Triple) -> Triple
+    ensures { λ r. ⌜ r ≡ cond bigs big segment ⌝ }
 {
-    let strokes = chart.stroke_count;
-    let mut items = [NO_ITEM; 256];
-    let mut i = 0u16;
-    while i < n {
-        let t = triples[i as usize];
-        if strokes <= t.first {
-            return Gathered {
-                lacking: true,
-                items,
-            };
-        }
-        if strokes <= t.last {
-            return Gathered {
-                lacking: true,
-                items,
-            };
-        }
-        let s = chart.strokes[t.first as usize];
-        let e = chart.strokes[t.last as usize];
-        items[i as usize] = Item {
+    if bigs {
+        return big;
+    }
+    segment
+}
+
+fn chosen_count(bigs: bool, big: u16, segment: u16) -> u16
+    ensures { λ r. ⌜ r ≡ cond bigs big segment ⌝ }
+{
+    if bigs {
+        return big;
+    }
+    segment
+}
+
+// The record t as a triple over strokes: a big goes from the first stroke of its first segment, a, to the last stroke of its last, z.
+fn over_strokes(bigs: bool, t: Triple, a: Triple, z: Triple) -> Triple
+    ensures { λ r. ⌜ r ≡ cond bigs (record { direction = t .direction; first = a .first; last = z .last }) t ⌝ }
+{
+    if bigs {
+        return Triple {
             direction: t.direction,
-            start: s.start_price,
-            end: e.end_price,
-        };
-        i += 1;
-    }
-    Gathered {
-        lacking: false,
-        items,
-    }
-}
-
-// Each big from the first stroke of its first segment to the last stroke of its last.
-fn spans_of(chart: Chart) -> Spans
-    requires { ⌜ (chart .«segment_count» ≤ 256) × (chart .«big_count» ≤ 256) ⌝ }
-    ensures { λ r. ⌜ Gathers (overStrokes (levelsOf chart)) (levelsOf chart .bigs) (r .lacking) (take (chart .«big_count») (r .spans)) ⌝ }
-{
-    let segments = chart.segment_count;
-    let n = chart.big_count;
-    let mut spans = [NO_TRIPLE; 256];
-    let mut i = 0u16;
-    while i < n {
-        let b = chart.bigs[i as usize];
-        if segments <= b.first {
-            return Spans {
-                lacking: true,
-                spans,
-            };
-        }
-        if segments <= b.last {
-            return Spans {
-                lacking: true,
-                spans,
-            };
-        }
-        let a = chart.segments[b.first as usize];
-        let z = chart.segments[b.last as usize];
-        spans[i as usize] = Triple {
-            direction: b.direction,
             first: a.first,
             last: z.last,
         };
-        i += 1;
     }
-    Spans {
-        lacking: false,
-        spans,
-    }
+    t
 }
 
-// The items of the bigs.
-fn big_items(chart: Chart) -> Gathered
-    requires { ⌜ (chart .«stroke_count» ≤ 512) × (chart .«segment_count» ≤ 256) × (chart .«big_count» ≤ 256) ⌝ }
-    ensures { λ r. ⌜ Gathers (bigItem (levelsOf chart)) (levelsOf chart .bigs) (r .lacking) (itemsOf (chart .«big_count») (r .items)) ⌝ }
+// The item of a record, where it is there.
+enum ItemRead {
+    There(Item),
+    Lacking,
+}
+
+// The item of t over a level of `below` records in a chart with this number of strokes: u is t as a triple over strokes, s the first stroke
+// of u and e the last, each of them where it is there.
+fn item_from(t: Triple, u: Triple, s: Stroke, e: Stroke, below: u16, strokes: u16) -> ItemRead
+    ensures { λ r. ⌜ readOf r ≡ itemFrom below strokes t u s e ⌝ }
 {
-    let over = spans_of(chart);
-    if over.lacking {
-        return Gathered {
-            lacking: true,
-            items: [NO_ITEM; 256],
-        };
+    if below <= t.first {
+        return ItemRead::Lacking;
     }
-    let spans = over.spans;
-    items_of(chart, spans, chart.big_count)
+    if below <= t.last {
+        return ItemRead::Lacking;
+    }
+    if strokes <= u.first {
+        return ItemRead::Lacking;
+    }
+    if strokes <= u.last {
+        return ItemRead::Lacking;
+    }
+    ItemRead::There(Item {
+        direction: t.direction,
+        start: s.start_price,
+        end: e.end_price,
+    })
+}
+
+// The items of the bigs or of the segments. An index is made safe before its place is read, and tested behind that, by item_from.
+fn items_of(chart: Chart, bigs: bool) -> Gathered
+    requires { ⌜ (chart .«stroke_count» ≤ 512) × (chart .«segment_count» ≤ 256) × (chart .«big_count» ≤ 256) ⌝ }
+    ensures { λ r. ⌜ Gathers (itemIn bigs (levelsOf chart)) (levelOf bigs (levelsOf chart)) (r .lacking) (itemsOf (cond bigs (chart .«big_count») (chart .«segment_count»)) (r .directions) (r .starts) (r .ends)) ⌝ }
+{
+    let strokes = chart.stroke_count;
+    let segments = chart.segment_count;
+    let n = chosen_count(bigs, chart.big_count, segments) as usize;
+    let below = chosen_count(bigs, segments, strokes);
+    let mut got = Gathered {
+        lacking: true,
+        directions: [0; 256],
+        starts: [0.0; 256],
+        ends: [0.0; 256],
+    };
+    let mut k = 0usize;
+    while k < n {
+        let big = chart.bigs[k];
+        let segment = chart.segments[k];
+        let t = chosen(bigs, big, segment);
+        let a = chart.segments[at_most(t.first, 255) as usize];
+        let z = chart.segments[at_most(t.last, 255) as usize];
+        let u = over_strokes(bigs, t, a, z);
+        let s = chart.strokes[at_most(u.first, 511) as usize];
+        let e = chart.strokes[at_most(u.last, 511) as usize];
+        let read = item_from(t, u, s, e, below, strokes);
+        let ItemRead::There(x) = read else {
+            return got;
+        };
+        got.directions[k] = x.direction;
+        got.starts[k] = x.start;
+        got.ends[k] = x.end;
+        k += 1;
+    }
+    got.lacking = false;
+    got
 }
 
 // ---- the calls
@@ -485,8 +535,7 @@ fn answer(got: Gathered, n: u16, case3: u8) -> ClassRows
     if got.lacking {
         return refused(10);
     }
-    let items = got.items;
-    classes_of(items, n, case3 == 1)
+    classes_of(&got.directions, &got.starts, &got.ends, n, case3 == 1)
 }
 
 // The classes of segments, with the case-3 byte: 21, 2, 10.
@@ -496,9 +545,7 @@ pub fn classify_big_segments(chart: Chart, case3: u8) -> ClassRows
     if levels::bad_chart(chart) {
         return refused(21);
     }
-    let segments = chart.segments;
-    let n = chart.segment_count;
-    answer(items_of(chart, segments, n), n, case3)
+    answer(items_of(chart, false), chart.segment_count, case3)
 }
 
 // The classes of bigs.
@@ -508,5 +555,5 @@ pub fn classify_sup_segments(chart: Chart, case3: u8) -> ClassRows
     if levels::bad_chart(chart) {
         return refused(21);
     }
-    answer(big_items(chart), chart.big_count, case3)
+    answer(items_of(chart, true), chart.big_count, case3)
 }

@@ -28,7 +28,7 @@ classes-of-requires c κs = search needs
 
 returns-4 : tie.Need-returns-4
 returns-4 c f ts size g =
-    let at3 = c .before .before in
+    let at3 = c .before .before .before .before .before in
     let at2 = at3 .before in
     ends-all f ts _ _ size _ (at2 .before .if1 .left) (at2 .if2 .left) _ _ g (at3 .if3 .left) (c .classes-of .ensures)
 

@@ -1,16 +1,17 @@
 -- `classes::at_or_beyond` meets its contract. Assumes nothing.
-use borrow.Author.Tests.{eq-eqb, ne-eqb}
-use Rattle.rules.specs.Classes.{atOrBeyond}
+use Rattle.classes.proofs.Second.{compared-at-or-beyond}
+use borrow.Author.Needs.{needs}
 use Rattle.classes.proofs.at_or_beyond.Statement.{statement}
 use Rattle.classes.proofs.at_or_beyond.Tie as tie
 
-returns : tie.Need-returns
-unfolding atOrBeyond
-returns c = rw (eq-eqb _ _ (c .if1 .taken))
+by-direction-requires : tie.Need-by-direction-requires
+by-direction-requires c κs = search needs
 
-returns-2 : tie.Need-returns-2
-unfolding atOrBeyond
-returns-2 c = rw (ne-eqb _ _ (c .if1 .left))
+by-direction-requires-2 : tie.Need-by-direction-requires-2
+by-direction-requires-2 c κs = search needs
+
+returns : tie.Need-returns
+returns c = compared-at-or-beyond _ _ _ _ _ (c .before .by-direction .ensures) (c .by-direction2 .ensures)
 
 pub at-or-beyond-spec : {M : Type 1} → statement M
-at-or-beyond-spec = tie.close (tie.spec returns returns-2)
+at-or-beyond-spec = tie.close (tie.spec by-direction-requires by-direction-requires-2 returns)

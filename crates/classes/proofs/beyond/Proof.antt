@@ -1,16 +1,17 @@
 -- `classes::beyond` meets its contract. Assumes nothing.
-use borrow.Author.Tests.{eq-eqb, ne-eqb}
-use Rattle.rules.specs.Classes.{beyond}
+use Rattle.classes.proofs.Second.{compared-beyond}
+use borrow.Author.Needs.{needs}
 use Rattle.classes.proofs.beyond.Statement.{statement}
 use Rattle.classes.proofs.beyond.Tie as tie
 
-returns : tie.Need-returns
-unfolding beyond
-returns c = rw (eq-eqb _ _ (c .if1 .taken))
+by-direction-requires : tie.Need-by-direction-requires
+by-direction-requires c κs = search needs
 
-returns-2 : tie.Need-returns-2
-unfolding beyond
-returns-2 c = rw (ne-eqb _ _ (c .if1 .left))
+by-direction-requires-2 : tie.Need-by-direction-requires-2
+by-direction-requires-2 c κs = search needs
+
+returns : tie.Need-returns
+returns c = compared-beyond _ _ _ _ _ (c .before .by-direction .ensures) (c .by-direction2 .ensures)
 
 pub beyond-spec : {M : Type 1} → statement M
-beyond-spec = tie.close (tie.spec returns returns-2)
+beyond-spec = tie.close (tie.spec by-direction-requires by-direction-requires-2 returns)

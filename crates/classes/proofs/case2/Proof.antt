@@ -2,49 +2,44 @@
 use Prim.Native.Nat.{_≤_, _-_}
 use native.Mathlib.Omega.{arith}
 use mathlib.Core.Path.{_≡_, sym, _∙_}
-use lib.ListN.{length, drop}
-use Rattle.rules.specs.Classes.{case2From, case2}
+use mathlib.Core.List.{List}
+use mathlib.Core.Option.{some}
+use lib.ListN.{drop, getElem?}
+use denote.Ref.{now}
+use Rattle.rules.specs.Classes.{Item, case2From, case2}
 use Rattle.classes.specs.Items.{itemOf, itemsOf}
+use Rattle.classes.proofs.Items.{items-over, item-in}
 use Rattle.classes.proofs.Second.{second-begins, second-over, second-other, second-fails, second-ends, second-next}
 use borrow.Author.Needs.{needs}
 use Rattle.classes.proofs.case2.Statement.{statement}
 use Rattle.classes.proofs.case2.Tie as tie
 
 abbrev Inv-loop : tie.InvT-loop
-Inv-loop n i items x top₀ j₀ top j =
-    (j ≤ n) × (case2From (itemOf x) top j (drop j (itemsOf n items)) ≡ case2 (itemsOf n items) i)
+Inv-loop directions starts ends n i x top₀ j₀ top j =
+    (j ≤ n) × (case2From (itemOf x) top j (drop j (itemsOf n directions starts ends)) ≡ case2 (itemsOf n directions starts ends) i)
 
 abbrev μ-loop : tie.MeasureT-loop
-μ-loop n i items x top₀ j₀ top j = n - j
+μ-loop directions starts ends n i x top₀ j₀ top j = n - j
 
-long : (c : tie.Start Inv-loop μ-loop) → c .args .n ≤ length (c .args .t1)
-long c = omega arith
+abbrev items : tie.At-loop Inv-loop μ-loop → List Item
+items c = let a = c .before .before .args in itemsOf (a .n) (now (a .directions)) (now (a .starts)) (now (a .ends))
 
-abbrev start : tie.At-loop Inv-loop μ-loop → tie.Start Inv-loop μ-loop
-start c = c .before .before
-
-mul-x : tie.Need-mul-x Inv-loop μ-loop
-mul-x c = search needs
-
-array-copy-out-x : tie.Need-array-copy-out-x Inv-loop μ-loop
-array-copy-out-x c = search needs
+item-at-requires : tie.Need-item-at-requires Inv-loop μ-loop
+item-at-requires c κs = search needs
 
 add-j : tie.Need-add-j Inv-loop μ-loop
 add-j c = search needs
 
 loop-holds : tie.Need-loop-holds Inv-loop μ-loop
 loop-holds c =
-    let start = c .before in
-    let a = start .args in (omega arith, second-begins (a .n) (a .i) (a .t1) (omega arith) (long start))
+    (omega arith, second-begins _ (c .before .args .i) _ (item-in _ _ _ _ _ _ (omega arith) (c .item-at .ensures)))
 
-cast-y : tie.Need-cast-y Inv-loop μ-loop
-cast-y c = search needs
+item-at-requires-2 : tie.Need-item-at-requires-2 Inv-loop μ-loop
+item-at-requires-2 c κs = search needs
 
-mul-y : tie.Need-mul-y Inv-loop μ-loop
-mul-y c = search needs
-
-array-copy-out-y : tie.Need-array-copy-out-y Inv-loop μ-loop
-array-copy-out-y c = search needs
+-- the next item
+next : (c : tie.After-item-at2 Inv-loop μ-loop) → getElem? (items (c .before .before)) (c .before .before .loop .j) ≡ some (itemOf (c .item-at2 .result))
+next c = item-in _ _ _ _ _ _ (c .before .loop-test .taken) (c .item-at2 .ensures)
 
 add-j-2 : tie.Need-add-j-2 Inv-loop μ-loop
 add-j-2 c = search needs
@@ -54,37 +49,35 @@ loop-less c = search needs
 
 loop-again : tie.Need-loop-again Inv-loop μ-loop
 loop-again c =
-    let in-loop = c .before .before .before .before in
-    let head = in-loop .before in
-    (omega arith, second-other _ (head .loop .j) _ _ _ _ (long (start head)) (head .loop .inv .1) (in-loop .loop-test .taken) (c .if1 .taken))
+    let at-item = c .before .before .before in
+    (omega arith, second-other _ _ _ _ _ (at-item .before .before .loop .inv .1) _ (next at-item) (c .if1 .taken))
 
 at-or-short-requires : tie.Need-at-or-short-requires Inv-loop μ-loop
 at-or-short-requires c κs = search needs
 
-returns : tie.Need-returns Inv-loop μ-loop
-returns c =
-    let at1 = c .before .before in
-    let in-loop = at1 .before .before .before .before in
-    let head = in-loop .before in
-    record {
-      same = second-fails _ (head .loop .j) _ _ _ _ (long (start head)) (head .loop .inv .1) (in-loop .loop-test .taken) (at1 .if1 .left)
-          (sym (c .before .at-or-short .ensures) ∙ c .if2 .taken);
-      among = tt;
-    }
-
 beyond-requires : tie.Need-beyond-requires Inv-loop μ-loop
 beyond-requires c κs = search needs
 
+returns : tie.Need-returns Inv-loop μ-loop
+returns c =
+    let at-short = c .before .before in
+    let at1 = at-short .before in
+    let at-item = at1 .before .before .before in
+    record {
+      same = second-fails _ _ _ _ _ (at-item .before .before .loop .inv .1) _ (next at-item) (at1 .if1 .left)
+          (sym (at-short .at-or-short .ensures) ∙ c .if2 .taken);
+      among = tt;
+    }
+
 returns-2 : tie.Need-returns-2 Inv-loop μ-loop
 returns-2 c =
-    let at2 = c .before .before in
-    let at1 = at2 .before .before in
-    let in-loop = at1 .before .before .before .before in
-    let head = in-loop .before in
+    let at-beyond = c .before .before in
+    let at1 = at-beyond .before .before in
+    let at-item = at1 .before .before .before in
     record {
-      same = second-ends _ (head .loop .j) _ _ _ _ (long (start head)) (head .loop .inv .1) (in-loop .loop-test .taken) (at1 .if1 .left)
-          (sym (at2 .before .at-or-short .ensures) ∙ at2 .if2 .left) (sym (c .before .beyond .ensures) ∙ c .if3 .taken);
-      among = in-loop .loop-test .taken;
+      same = second-ends _ _ _ _ _ (at-item .before .before .loop .inv .1) _ (next at-item) (at1 .if1 .left)
+          (sym (at-beyond .before .at-or-short .ensures) ∙ c .before .if2 .left) (sym (at-beyond .beyond .ensures) ∙ c .if3 .taken);
+      among = at-item .before .loop-test .taken;
     }
 
 add-j-3 : tie.Need-add-j-3 Inv-loop μ-loop
@@ -95,19 +88,21 @@ loop-less-2 c = search needs
 
 loop-again-2 : tie.Need-loop-again-2 Inv-loop μ-loop
 loop-again-2 c =
-    let at2 = c .before .before in
-    let at1 = at2 .before .before in
-    let in-loop = at1 .before .before .before .before in
-    let head = in-loop .before in (
+    let at-beyond = c .before .before in
+    let at1 = at-beyond .before .before in
+    let at-item = at1 .before .before .before in (
       omega arith,
-      second-next _ (head .loop .j) _ _ _ _ (long (start head)) (head .loop .inv .1) (in-loop .loop-test .taken) (at1 .if1 .left)
-          (sym (at2 .before .at-or-short .ensures) ∙ at2 .if2 .left) (sym (c .before .beyond .ensures) ∙ c .if3 .left),
+      second-next _ _ _ _ _ (at-item .before .before .loop .inv .1) _ (next at-item) (at1 .if1 .left)
+          (sym (at-beyond .before .at-or-short .ensures) ∙ c .before .if2 .left) (sym (at-beyond .beyond .ensures) ∙ c .if3 .left),
     )
 
 returns-3 : tie.Need-returns-3 Inv-loop μ-loop
 returns-3 c =
     let head = c .before in
-    record { same = second-over _ (head .loop .j) _ _ _ _ (long (start head)) (head .loop .inv .1) (c .loop-test .left); among = tt }
+    record {
+      same = second-over _ _ _ _ _ (head .loop .inv .1) (items-over _ _ _ _ _ (c .loop-test .left));
+      among = tt;
+    }
 
 pub case2-spec : {M : Type 1} → statement M
 case2-spec =
@@ -115,19 +110,16 @@ case2-spec =
     (tie.spec
     Inv-loop
     μ-loop
-    mul-x
-    array-copy-out-x
+    item-at-requires
     add-j
     loop-holds
-    cast-y
-    mul-y
-    array-copy-out-y
+    item-at-requires-2
     add-j-2
     loop-less
     loop-again
     at-or-short-requires
-    returns
     beyond-requires
+    returns
     returns-2
     add-j-3
     loop-less-2

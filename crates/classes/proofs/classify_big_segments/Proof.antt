@@ -30,15 +30,15 @@ returns : tie.Need-returns
 returns c = segments-bad _ _ _ (sym (c .before .before .bad-chart .ensures) ∙ c .before .if1 .taken) (c .refused .ensures)
 
 items-of-requires : tie.Need-items-of-requires
-items-of-requires c κs = let n = counts (c .before) in (n .strokes, n .segments)
+items-of-requires c κs = let n = counts c in (n .strokes, n .segments, n .bigs)
 
 answer-requires : tie.Need-answer-requires
-answer-requires c κs = counts (c .before .before) .segments
+answer-requires c κs = counts (c .before) .segments
 
 returns-2 : tie.Need-returns-2
 unfolding levelsOf
 returns-2 c =
-    let at-if = c .before .before .before in
+    let at-if = c .before .before in
     segments-good _ _ _ (sym (at-if .before .bad-chart .ensures) ∙ at-if .if1 .left)
     (c .answer .ensures _ (levelsOf (at-if .before .before .args .chart) .segments) (size at-if) (c .before .items-of .ensures))
 

@@ -29,8 +29,8 @@ refused-requires c κs = search needs
 returns : tie.Need-returns
 returns c = bigs-bad _ _ _ (sym (c .before .before .bad-chart .ensures) ∙ c .before .if1 .taken) (c .refused .ensures)
 
-big-items-requires : tie.Need-big-items-requires
-big-items-requires c κs = let n = counts c in (n .strokes, n .segments, n .bigs)
+items-of-requires : tie.Need-items-of-requires
+items-of-requires c κs = let n = counts c in (n .strokes, n .segments, n .bigs)
 
 answer-requires : tie.Need-answer-requires
 answer-requires c κs = counts (c .before) .bigs
@@ -40,7 +40,7 @@ unfolding levelsOf
 returns-2 c =
     let at-if = c .before .before in
     bigs-good _ _ _ (sym (at-if .before .bad-chart .ensures) ∙ at-if .if1 .left)
-    (c .answer .ensures _ (levelsOf (at-if .before .before .args .chart) .bigs) (size at-if) (c .before .big-items .ensures))
+    (c .answer .ensures _ (levelsOf (at-if .before .before .args .chart) .bigs) (size at-if) (c .before .items-of .ensures))
 
 pub classify-sup-segments-spec : {M : Type 1} → statement M
 classify-sup-segments-spec =
@@ -49,6 +49,6 @@ classify-sup-segments-spec =
     bad-chart-requires
     refused-requires
     returns
-    big-items-requires
+    items-of-requires
     answer-requires
     returns-2)

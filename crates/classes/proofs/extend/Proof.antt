@@ -1,10 +1,16 @@
 -- `classes::extend` meets its contract. The invariant: the class so far, extended over what is left of the items, is the class extended. Assumes nothing.
 use Prim.Native.Nat.{_≤_, _-_}
 use native.Mathlib.Omega.{arith}
-use mathlib.Core.Path.{_≡_}
-use lib.ListN.{length, drop}
-use Rattle.rules.specs.Classes.{extendOver, extend}
-use Rattle.classes.specs.Items.{itemsOf}
+use mathlib.Core.Path.{_≡_, _∙_}
+use mathlib.Core.List.{List}
+use mathlib.Core.Option.{some}
+use lib.ListN.{length, take, drop, getElem?}
+use lib.Seq.{length-take-le}
+use denote.Ref.{now}
+use Rattle.rules.specs.Classes.{Item, extendOver, extend}
+use Rattle.laws.proofs.Lists.{at-take}
+use Rattle.classes.specs.Items.{itemOf, itemsOf}
+use Rattle.classes.proofs.Items.{items-length, item-in}
 use Rattle.classes.proofs.Extended.{extend-none, extend-begins, over-none, over-pass, over-moves}
 use borrow.Author.Tests.{not-true, not-false}
 use borrow.Author.Needs.{needs}
@@ -12,52 +18,53 @@ use Rattle.classes.proofs.extend.Statement.{statement}
 use Rattle.classes.proofs.extend.Tie as tie
 
 abbrev Inv-loop : tie.InvT-loop
-Inv-loop n stop items last end price₀ r₀ at₀ price r at =
-    (end ≤ n) × (extendOver r price at (drop at (itemsOf end items)) ≡ extend (itemsOf n items) stop r₀)
+Inv-loop directions starts ends n stop last end price₀ r₀ at₀ price r at =
+    (end ≤ n)
+    × (extendOver r price at (drop at (take end (itemsOf n directions starts ends))) ≡ extend (itemsOf n directions starts ends) stop r₀)
 
 abbrev μ-loop : tie.MeasureT-loop
-μ-loop n stop items last end price₀ r₀ at₀ price r at = end - at
+μ-loop directions starts ends n stop last end price₀ r₀ at₀ price r at = end - at
 
-long : (c : tie.Start Inv-loop μ-loop) → c .args .n ≤ length (c .args .t1)
-long c = omega arith
+-- those of the items that the class may reach
+abbrev reach : tie.At-loop Inv-loop μ-loop → List Item
+reach c =
+    let a = c .before .before .before .before .args in
+    take (c .before .before .at-most .result) (itemsOf (a .n) (now (a .directions)) (now (a .starts)) (now (a .ends)))
 
-abbrev start : tie.At-loop Inv-loop μ-loop → tie.Start Inv-loop μ-loop
-start c = c .before .before .before .before
-
-room : (c : tie.At-loop Inv-loop μ-loop) → c .before .before .at-most .result ≤ length (start c .args .t1)
-room c = omega (arith, c .loop .inv .0, long (start c))
+reach-length : (c : tie.At-loop Inv-loop μ-loop) → length (reach c) ≡ c .before .before .at-most .result
+reach-length c =
+    let a = c .before .before .before .before .args in
+    let all = items-length (now (a .directions)) (now (a .starts)) (now (a .ends)) (a .n) in
+    length-take-le _ (itemsOf (a .n) (now (a .directions)) (now (a .starts)) (now (a .ends))) (omega (arith, c .loop .inv .0))
 
 returns : tie.Need-returns Inv-loop μ-loop
-returns c = extend-none _ _ _ _ (long (c .before)) (c .if1 .taken)
+returns c = extend-none _ _ _ _ (items-length _ _ _ _) (c .if1 .taken)
 
 at-most-requires : tie.Need-at-most-requires Inv-loop μ-loop
 at-most-requires c κs = search needs
 
-cast-x : tie.Need-cast-x Inv-loop μ-loop
-cast-x c = search needs
-
-mul-x : tie.Need-mul-x Inv-loop μ-loop
-mul-x c = search needs
-
-array-copy-out-x : tie.Need-array-copy-out-x Inv-loop μ-loop
-array-copy-out-x c = search needs
+item-at-requires : tie.Need-item-at-requires Inv-loop μ-loop
+item-at-requires c κs = search needs
 
 add-at : tie.Need-add-at Inv-loop μ-loop
 add-at c = search needs
 
 loop-holds : tie.Need-loop-holds Inv-loop μ-loop
 loop-holds c =
-    let at-if = c .before .before in
-    (omega (arith, c .before .at-most .ensures), extend-begins _ _ _ _ (long (at-if .before)) _ (at-if .if1 .left) (c .before .at-most .ensures))
+    let at-if = c .before .before in (
+      omega (arith, c .before .at-most .ensures),
+      extend-begins _ _ _ _ (items-length _ _ _ _) _ _ (item-in _ _ _ _ _ _ (at-if .if1 .left) (c .item-at .ensures)) (c .before .at-most .ensures),
+    )
 
-cast-y : tie.Need-cast-y Inv-loop μ-loop
-cast-y c = search needs
+item-at-requires-2 : tie.Need-item-at-requires-2 Inv-loop μ-loop
+item-at-requires-2 c κs = search needs
 
-mul-y : tie.Need-mul-y Inv-loop μ-loop
-mul-y c = search needs
-
-array-copy-out-y : tie.Need-array-copy-out-y Inv-loop μ-loop
-array-copy-out-y c = search needs
+-- the next item
+next : (c : tie.After-item-at2 Inv-loop μ-loop) → getElem? (reach (c .before .before)) (c .before .before .loop .at) ≡ some (itemOf (c .item-at2 .result))
+next c =
+    let head = c .before .before in
+    at-take _ _ _ (c .before .loop-test .taken)
+    ∙ item-in _ _ _ _ _ _ (omega (arith, head .loop .inv .0, c .before .loop-test .taken)) (c .item-at2 .ensures)
 
 reaches-requires : tie.Need-reaches-requires Inv-loop μ-loop
 reaches-requires c κs = search needs
@@ -70,12 +77,10 @@ loop-less c = search needs
 
 loop-again : tie.Need-loop-again Inv-loop μ-loop
 loop-again c =
-    let at-reaches = c .before in
-    let in-loop = at-reaches .before .before in
-    let head = in-loop .before in (
+    let at-item = c .before .before in
+    let head = at-item .before .before in (
       head .loop .inv .0,
-      over-pass _ (head .loop .at) _ _ _ _ (room head) (head .loop .inv .1) (in-loop .loop-test .taken) _ (at-reaches .reaches .ensures)
-          (not-true _ (c .if2 .taken)),
+      over-pass _ _ _ _ _ (head .loop .inv .1) _ (next at-item) _ (c .before .reaches .ensures) (not-true _ (c .if2 .taken)),
     )
 
 moved-requires : tie.Need-moved-requires Inv-loop μ-loop
@@ -90,17 +95,16 @@ loop-less-2 c = search needs
 loop-again-2 : tie.Need-loop-again-2 Inv-loop μ-loop
 loop-again-2 c =
     let at-reaches = c .before .before in
-    let in-loop = at-reaches .before .before in
-    let head = in-loop .before in (
+    let at-item = at-reaches .before in
+    let head = at-item .before .before in (
       head .loop .inv .0,
-      over-moves _ (head .loop .at) _ _ _ _ (room head) (head .loop .inv .1) (in-loop .loop-test .taken) _ (at-reaches .reaches .ensures)
-          _ (not-false _ (c .before .if2 .left)) (c .moved .ensures),
+      over-moves _ _ _ _ _ (head .loop .inv .1) _ (next at-item) _ (at-reaches .reaches .ensures) _ (not-false _ (c .before .if2 .left)) (c .moved .ensures),
     )
 
 returns-2 : tie.Need-returns-2 Inv-loop μ-loop
 returns-2 c =
     let head = c .before in
-    over-none _ (head .loop .at) _ _ _ _ (room head) (head .loop .inv .1) (c .loop-test .left)
+    over-none _ _ _ _ _ (head .loop .inv .1) (omega (arith, reach-length head, c .loop-test .left))
 
 pub extend-spec : {M : Type 1} → statement M
 extend-spec =
@@ -110,14 +114,10 @@ extend-spec =
     μ-loop
     returns
     at-most-requires
-    cast-x
-    mul-x
-    array-copy-out-x
+    item-at-requires
     add-at
     loop-holds
-    cast-y
-    mul-y
-    array-copy-out-y
+    item-at-requires-2
     reaches-requires
     add-at-2
     loop-less

@@ -12,17 +12,14 @@ use Rattle.classes.proofs.extend_all.Statement.{statement}
 use Rattle.classes.proofs.extend_all.Tie as tie
 
 abbrev Inv-loop : tie.InvT-loop
-Inv-loop items n count rows₀ stop₀ c₀ rows stop c =
-    (c ≤ count) × (length rows ≡ 256) × (length rows₀ ≡ 256) × Behind (itemsOf n items) count c stop rows₀ rows
+Inv-loop directions starts ends n count rows₀ stop₀ c₀ rows stop c =
+    (c ≤ count) × (length rows ≡ 256) × (length rows₀ ≡ 256) × Behind (itemsOf n directions starts ends) count c stop rows₀ rows
 
 abbrev μ-loop : tie.MeasureT-loop
-μ-loop items n count rows₀ stop₀ c₀ rows stop c = c
+μ-loop directions starts ends n count rows₀ stop₀ c₀ rows stop c = c
 
 rows-long : (c : tie.Start Inv-loop μ-loop) → length (c .args .found .rows) ≡ 256
 rows-long c = search (needs, length-via)
-
-many : (c : tie.Start Inv-loop μ-loop) → length (itemsOf (c .args .n) (c .args .items)) ≡ c .args .n
-many c = items-length (c .args .n) 0 (c .args .items) (omega arith)
 
 loop-holds : tie.Need-loop-holds Inv-loop μ-loop
 loop-holds c =
@@ -30,7 +27,7 @@ loop-holds c =
       omega arith,
       rows-long start,
       rows-long start,
-      behind-first _ _ _ _ (omega (arith, rows-long start, start .pre)) (sym (many start)),
+      behind-first _ _ _ _ (omega (arith, rows-long start, start .pre)) (sym (items-length _ _ _ _)),
     )
 
 sub-c : tie.Need-sub-c Inv-loop μ-loop

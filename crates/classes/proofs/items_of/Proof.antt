@@ -1,53 +1,139 @@
--- `classes::items_of` meets its contract. The invariant: the items so far, and those of what is left of the triples, are all; none is missing so far. Assumes nothing.
-use Prim.Native.Nat.{_≤_, _<_, _-_}
+-- `classes::items_of` meets its contract. The invariant: the items so far, and those of what is left of the level, are all; none is missing so far.
+-- Assumes nothing.
+use Prim.Native.Nat.{ℕ, _≤_, _<_, _-_}
 use native.Mathlib.Omega.{arith}
-use mathlib.Core.Path.{_≡_, refl}
-use lib.ListN.{length, length-set}
+use mathlib.Core.Path.{_≡_, refl, sym, ap, _∙_}
+use mathlib.Core.Bool.{true, cond}
+use mathlib.Core.Option.{some}
+use lib.ListN.{length, getElem?, length-set}
 use Rattle.rules.specs.Records.{levelsOf}
-use Rattle.rules.specs.Classes.{segmentItem}
 use Rattle.laws.proofs.Arrays.{length-via}
-use Rattle.classes.specs.Items.{itemsOf}
-use Rattle.classes.proofs.Gather.{Left, left-first, left-all, left-missing, left-there, item-more, no-first-stroke, no-last-stroke, both-strokes}
+use Rattle.laws.proofs.Tests.{pick-cond}
+use Rattle.classes.specs.Items.{itemsOf, levelOf, itemIn, readOf}
+use Rattle.classes.proofs.Items.{item-more}
+use Rattle.classes.proofs.Gather.{Left, left-first, left-all, left-missing, left-there, level-length, level-at, item-read}
 use borrow.Author.Needs.{needs}
 use Rattle.classes.proofs.items_of.Statement.{statement}
 use Rattle.classes.proofs.items_of.Tie as tie
 
 abbrev Inv-loop : tie.InvT-loop
-Inv-loop n chart triples strokes items₀ i₀ items i =
-    (i ≤ n) × (length items ≡ 256) × Left (segmentItem (levelsOf chart)) n i triples (itemsOf i items)
+Inv-loop bigs chart strokes segments n below got₀ k₀ got k =
+    (n ≤ 256) × (k ≤ n) × (length (got .directions) ≡ 256) × (length (got .starts) ≡ 256) × (length (got .ends) ≡ 256) × (got .lacking ≡ true)
+    × Left (itemIn bigs (levelsOf chart)) (levelOf bigs (levelsOf chart)) k (itemsOf k (got .directions) (got .starts) (got .ends))
 
 abbrev μ-loop : tie.MeasureT-loop
-μ-loop n chart triples strokes items₀ i₀ items i = n - i
+μ-loop bigs chart strokes segments n below got₀ k₀ got k = n - k
 
 strokes-long : (c : tie.Start Inv-loop μ-loop) → c .args .t1 .«stroke_count» ≤ length (c .args .t1 .strokes)
 strokes-long c = let long : length (c .args .t1 .strokes) ≡ 512 = search (needs, length-via) in omega (arith, c .pre)
 
-long : (c : tie.Start Inv-loop μ-loop) → c .args .n ≤ length (c .args .t2)
-long c = omega arith
+segments-long : (c : tie.Start Inv-loop μ-loop) → c .args .t1 .«segment_count» ≤ length (c .args .t1 .segments)
+segments-long c = let long : length (c .args .t1 .segments) ≡ 256 = search (needs, length-via) in omega (arith, c .pre)
+
+bigs-long : (c : tie.Start Inv-loop μ-loop) → c .args .t1 .«big_count» ≤ length (c .args .t1 .bigs)
+bigs-long c = let long : length (c .args .t1 .bigs) ≡ 256 = search (needs, length-via) in omega (arith, c .pre)
+
+-- ---- places of the code
+
+abbrev start : tie.At-loop Inv-loop μ-loop → tie.Start Inv-loop μ-loop
+start c = c .before .before .before
+
+abbrev head : tie.After-chosen Inv-loop μ-loop → tie.At-loop Inv-loop μ-loop
+head c = c .before .before .before .before
+
+-- where t was chosen, before it was taken over strokes
+abbrev at-t : tie.After-over-strokes Inv-loop μ-loop → tie.After-chosen Inv-loop μ-loop
+at-t c = c .before .before .before .before .before
+
+-- where t was taken over strokes, before its item was read
+abbrev at-u : tie.After-item-from Inv-loop μ-loop → tie.After-over-strokes Inv-loop μ-loop
+at-u c = c .before .before .before .before .before
+
+-- the record of this turn, and its item
+there :
+    (c : tie.After-chosen Inv-loop μ-loop)
+    → getElem? (levelOf (start (head c) .args .bigs) (levelsOf (start (head c) .args .t1))) (head c .loop .k) ≡ some (c .chosen .result)
+there c =
+    let s = start (head c) in
+    level-at (s .args .t1) (strokes-long s) (segments-long s) (bigs-long s) (s .args .bigs) _ _
+    (rw (head c .before .before .chosen-count .ensures) at (c .before .before .before .loop-test .taken)) (c .chosen .ensures)
+
+read :
+    (c : tie.After-item-from Inv-loop μ-loop)
+    → readOf (c .item-from .result)
+    ≡ itemIn (start (head (at-t (at-u c))) .args .bigs) (levelsOf (start (head (at-t (at-u c))) .args .t1)) (at-t (at-u c) .chosen .result)
+read c =
+    let u = at-u c in
+    let t = at-t u in
+    let s = start (head t) in
+    c .item-from .ensures
+    ∙ item-read (s .args .t1) (strokes-long s) (segments-long s) (bigs-long s) (s .args .bigs) _ _ _ _ _ _ _ (s .pre .1) (s .pre .0)
+    (head t .before .chosen-count2 .ensures) (u .before .before .before .before .at-most .ensures) (u .before .before .at-most2 .ensures)
+    (u .over-strokes .ensures) (c .before .before .before .before .at-most3 .ensures) (c .before .before .at-most4 .ensures)
+
+-- ---- needs
+
+chosen-count-requires : tie.Need-chosen-count-requires Inv-loop μ-loop
+chosen-count-requires c κs = search needs
+
+cast-n : tie.Need-cast-n Inv-loop μ-loop
+cast-n c = search needs
+
+chosen-count-requires-2 : tie.Need-chosen-count-requires-2 Inv-loop μ-loop
+chosen-count-requires-2 c κs = search needs
 
 loop-holds : tie.Need-loop-holds Inv-loop μ-loop
-loop-holds c = (omega arith, refl, left-first _ _ _)
+unfolding itemsOf
+loop-holds c =
+    let start = c .before .before in
+    let few : cond (start .args .bigs) (start .args .t1 .«big_count») (start .args .t1 .«segment_count») ≤ 256 =
+    pick-cond (λ (n : ℕ). n ≤ 256) (start .args .bigs) _ _ (λ e. start .pre .2) (λ e. start .pre .1) in
+    (omega (arith, c .before .chosen-count .ensures), omega arith, refl, refl, refl, refl, left-first _ _)
 
-cast-t : tie.Need-cast-t Inv-loop μ-loop
-cast-t c = search needs
+mul-big : tie.Need-mul-big Inv-loop μ-loop
+mul-big c = search needs
 
-mul-t : tie.Need-mul-t Inv-loop μ-loop
-mul-t c = search needs
+element-copy-out-big : tie.Need-element-copy-out-big Inv-loop μ-loop
+element-copy-out-big c = search needs
 
-array-copy-out-t : tie.Need-array-copy-out-t Inv-loop μ-loop
-array-copy-out-t c = search needs
+mul-segment : tie.Need-mul-segment Inv-loop μ-loop
+mul-segment c = search needs
 
-returns : tie.Need-returns Inv-loop μ-loop
-returns c =
-    let in-loop = c .before .before .before in
-    let head = in-loop .before in
-    left-missing _ _ (head .loop .i) _ _ (long (head .before)) (head .loop .inv .2) (in-loop .loop-test .taken) _ (no-first-stroke _ _ (c .if1 .taken))
+element-copy-out-segment : tie.Need-element-copy-out-segment Inv-loop μ-loop
+element-copy-out-segment c = search needs
 
-returns-2 : tie.Need-returns-2 Inv-loop μ-loop
-returns-2 c =
-    let in-loop = c .before .before .before .before .before in
-    let head = in-loop .before in
-    left-missing _ _ (head .loop .i) _ _ (long (head .before)) (head .loop .inv .2) (in-loop .loop-test .taken) _ (no-last-stroke _ _ (c .if2 .taken))
+chosen-requires : tie.Need-chosen-requires Inv-loop μ-loop
+chosen-requires c κs = search needs
+
+at-most-requires : tie.Need-at-most-requires Inv-loop μ-loop
+at-most-requires c κs = search needs
+
+cast-a : tie.Need-cast-a Inv-loop μ-loop
+cast-a c = search needs
+
+mul-a : tie.Need-mul-a Inv-loop μ-loop
+mul-a c = search needs
+
+element-copy-out-a : tie.Need-element-copy-out-a Inv-loop μ-loop
+element-copy-out-a c = search needs
+
+at-most-requires-2 : tie.Need-at-most-requires-2 Inv-loop μ-loop
+at-most-requires-2 c κs = search needs
+
+cast-z : tie.Need-cast-z Inv-loop μ-loop
+cast-z c = search needs
+
+mul-z : tie.Need-mul-z Inv-loop μ-loop
+mul-z c = search needs
+
+element-copy-out-z : tie.Need-element-copy-out-z Inv-loop μ-loop
+element-copy-out-z c = search needs
+
+over-strokes-requires : tie.Need-over-strokes-requires Inv-loop μ-loop
+over-strokes-requires c κs = search needs
+
+at-most-requires-3 : tie.Need-at-most-requires-3 Inv-loop μ-loop
+at-most-requires-3 c κs = search needs
 
 cast-s : tie.Need-cast-s Inv-loop μ-loop
 cast-s c = search needs
@@ -58,6 +144,9 @@ mul-s c = search needs
 element-copy-out-s : tie.Need-element-copy-out-s Inv-loop μ-loop
 element-copy-out-s c = search needs
 
+at-most-requires-4 : tie.Need-at-most-requires-4 Inv-loop μ-loop
+at-most-requires-4 c κs = search needs
+
 cast-e : tie.Need-cast-e Inv-loop μ-loop
 cast-e c = search needs
 
@@ -67,41 +156,68 @@ mul-e c = search needs
 element-copy-out-e : tie.Need-element-copy-out-e Inv-loop μ-loop
 element-copy-out-e c = search needs
 
-cast-items : tie.Need-cast-items Inv-loop μ-loop
-cast-items c = search needs
+item-from-requires : tie.Need-item-from-requires Inv-loop μ-loop
+item-from-requires c κs = search needs
 
-mul-items : tie.Need-mul-items Inv-loop μ-loop
-mul-items c = search needs
+enum-known-read : tie.Need-enum-known-read Inv-loop μ-loop
+enum-known-read c = search needs
 
-array-set-from-items : tie.Need-array-set-from-items Inv-loop μ-loop
-array-set-from-items c = search needs
+enum-told : tie.Need-enum-told Inv-loop μ-loop
+enum-told c = search needs
 
-add-i : tie.Need-add-i Inv-loop μ-loop
-add-i c = search needs
+returns : tie.Need-returns Inv-loop μ-loop
+returns c =
+    let t = at-t (at-u (c .before .before)) in
+    let inv = head t .loop .inv in
+    rw (inv .5)
+    (left-missing _ _ _ _ (inv .6) _ (there t) _ (sym (read (c .before .before)) ∙ ap readOf (c .enum-told .given .1)))
+
+element-write-got : tie.Need-element-write-got Inv-loop μ-loop
+element-write-got c = search needs
+
+mul-got : tie.Need-mul-got Inv-loop μ-loop
+mul-got c = search needs
+
+element-write-got-2 : tie.Need-element-write-got-2 Inv-loop μ-loop
+element-write-got-2 c = search needs
+
+mul-got-2 : tie.Need-mul-got-2 Inv-loop μ-loop
+mul-got-2 c = search needs
+
+element-write-got-3 : tie.Need-element-write-got-3 Inv-loop μ-loop
+element-write-got-3 c = search needs
+
+add-k : tie.Need-add-k Inv-loop μ-loop
+add-k c = search needs
 
 loop-less : tie.Need-loop-less Inv-loop μ-loop
 loop-less c = search needs
 
 loop-again : tie.Need-loop-again Inv-loop μ-loop
 loop-again c =
-    let at2 = c .before .before .before .before in
-    let at1 = at2 .before .before in
-    let in-loop = at1 .before .before .before in
-    let head = in-loop .before in
-    let start = head .before in
-    let room : head .loop .i < length (head .loop .items) = omega (arith, head .loop .inv .1, in-loop .loop-test .taken, start .pre) in (
-      omega arith,
-      simp length-set (head .loop .inv .1),
-      rw (item-more (head .loop .items) (head .loop .i) _ room)
-          (left-there _ _ (head .loop .i) _ _ (long start) (head .loop .inv .2) (in-loop .loop-test .taken) _
-          (both-strokes _ _ (strokes-long start) (at1 .if1 .left) (at2 .if2 .left))),
+    let at-read = c .before .before .before in
+    let t = at-t (at-u at-read) in
+    let got = head t .loop .got in
+    let inv = head t .loop .inv in
+    let turn : head t .loop .k < 256 = omega (arith, inv .0, t .before .before .before .loop-test .taken) in (
+      inv .0,
+      omega (arith, t .before .before .before .loop-test .taken),
+      simp length-set (inv .2),
+      simp length-set (inv .3),
+      simp length-set (inv .4),
+      inv .5,
+      rw (item-more (got .directions) (got .starts) (got .ends) (head t .loop .k) _ _ _ (omega (arith, inv .2, turn)) (omega (arith, inv .3, turn)) (omega (arith, inv .4, turn)))
+          (left-there _ _ _ _ (inv .6) _ (there t) _ (sym (read at-read) ∙ ap readOf (c .before .read .given .1))),
     )
 
-returns-3 : tie.Need-returns-3 Inv-loop μ-loop
-returns-3 c =
-    let head = c .before in
-    let all : head .loop .i ≡ head .before .args .n = omega (arith, head .loop .inv .0, c .loop-test .left) in
-    rw all at (left-all _ _ (head .loop .i) _ _ (long (head .before)) (head .loop .inv .2) (c .loop-test .left))
+returns-2 : tie.Need-returns-2 Inv-loop μ-loop
+returns-2 c =
+    let top = c .before in
+    let s = start top in
+    let size = level-length (s .args .t1) (strokes-long s) (segments-long s) (bigs-long s) (s .args .bigs) in
+    let n = top .before .before .chosen-count .ensures in
+    let all : top .loop .k ≡ cond (s .args .bigs) (s .args .t1 .«big_count») (s .args .t1 .«segment_count») = omega (arith, n, top .loop .inv .1, c .loop-test .left) in
+    rw all at (left-all _ _ _ _ (top .loop .inv .6) (omega (arith, size, all)))
 
 pub items-of-spec : {M : Type 1} → statement M
 items-of-spec =
@@ -109,22 +225,42 @@ items-of-spec =
     (tie.spec
     Inv-loop
     μ-loop
+    chosen-count-requires
+    cast-n
+    chosen-count-requires-2
     loop-holds
-    cast-t
-    mul-t
-    array-copy-out-t
-    returns
-    returns-2
+    mul-big
+    element-copy-out-big
+    mul-segment
+    element-copy-out-segment
+    chosen-requires
+    at-most-requires
+    cast-a
+    mul-a
+    element-copy-out-a
+    at-most-requires-2
+    cast-z
+    mul-z
+    element-copy-out-z
+    over-strokes-requires
+    at-most-requires-3
     cast-s
     mul-s
     element-copy-out-s
+    at-most-requires-4
     cast-e
     mul-e
     element-copy-out-e
-    cast-items
-    mul-items
-    array-set-from-items
-    add-i
+    item-from-requires
+    enum-known-read
+    enum-told
+    returns
+    element-write-got
+    mul-got
+    element-write-got-2
+    mul-got-2
+    element-write-got-3
+    add-k
     loop-less
     loop-again
-    returns-3)
+    returns-2)

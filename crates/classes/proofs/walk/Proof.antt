@@ -2,38 +2,41 @@
 use Prim.Native.Nat.{_≤_, _<_, _-_}
 use native.Mathlib.Omega.{arith}
 use mathlib.Core.Path.{_≡_, refl}
-use mathlib.Core.Option.{none}
-use lib.ListN.{length, take, length-set}
-use Rattle.rules.specs.Classes.{walk}
-use Rattle.classes.specs.Items.{itemsOf}
-use Rattle.classes.proofs.Walked.{Carries, carries-first, carries-all, carries-pass, carries-none, carries-begins, carries-some, row-more}
+use mathlib.Core.List.{List}
+use mathlib.Core.Option.{none, some}
+use lib.ListN.{length, take, getElem?, length-set}
+use denote.Ref.{now}
+use Rattle.rules.specs.Classes.{Item, walk}
+use Rattle.classes.specs.Items.{itemOf, itemsOf}
+use Rattle.classes.proofs.Items.{items-over, item-in}
+use Rattle.laws.proofs.Arrays.{one-more}
+use Rattle.classes.proofs.Walked.{Carries, carries-first, carries-all, carries-pass, carries-none, carries-begins, carries-some}
 use borrow.Author.Tests.{not-true, not-false}
 use borrow.Author.Needs.{needs}
 use Rattle.classes.proofs.walk.Statement.{statement}
 use Rattle.classes.proofs.walk.Tie as tie
 
 abbrev Inv-loop : tie.InvT-loop
-Inv-loop n on items rows₀ count₀ last₀ next₀ i₀ rows count last next i =
+Inv-loop directions starts ends n on rows₀ count₀ last₀ next₀ i₀ rows count last next i =
     (i ≤ n) × (count ≤ i) × (length rows ≡ 256)
-    × Carries on (itemsOf n items) last next i (take count rows) (walk on (itemsOf n items) none 0 0 (itemsOf n items))
+    × Carries on (itemsOf n directions starts ends) last next i (take count rows)
+    (walk on (itemsOf n directions starts ends) none 0 0 (itemsOf n directions starts ends))
 
 abbrev μ-loop : tie.MeasureT-loop
-μ-loop n on items rows₀ count₀ last₀ next₀ i₀ rows count last next i = n - i
+μ-loop directions starts ends n on rows₀ count₀ last₀ next₀ i₀ rows count last next i = n - i
 
-long : (c : tie.Start Inv-loop μ-loop) → c .args .n ≤ length (c .args .t1)
-long c = omega arith
+abbrev items : tie.At-loop Inv-loop μ-loop → List Item
+items c = let a = c .before .args in itemsOf (a .n) (now (a .directions)) (now (a .starts)) (now (a .ends))
 
 loop-holds : tie.Need-loop-holds Inv-loop μ-loop
 loop-holds c = (omega arith, omega arith, refl, carries-first _ _)
 
-cast-x : tie.Need-cast-x Inv-loop μ-loop
-cast-x c = search needs
+item-at-requires : tie.Need-item-at-requires Inv-loop μ-loop
+item-at-requires c κs = search needs
 
-mul-x : tie.Need-mul-x Inv-loop μ-loop
-mul-x c = search needs
-
-array-copy-out-x : tie.Need-array-copy-out-x Inv-loop μ-loop
-array-copy-out-x c = search needs
+-- the next item
+here : (c : tie.After-item-at Inv-loop μ-loop) → getElem? (items (c .before .before)) (c .before .before .loop .i) ≡ some (itemOf (c .item-at .result))
+here c = item-in _ _ _ _ _ _ (c .before .loop-test .taken) (c .item-at .ensures)
 
 wanted-requires : tie.Need-wanted-requires Inv-loop μ-loop
 wanted-requires c κs = search needs
@@ -51,12 +54,12 @@ loop-again : tie.Need-loop-again Inv-loop μ-loop
 loop-again c =
     let at-both = c .before in
     let at-wanted = at-both .before in
-    let in-loop = at-wanted .before .before in
-    let head = in-loop .before in (
+    let at-item = at-wanted .before in
+    let head = at-item .before .before in (
       omega arith,
       omega arith,
       head .loop .inv .2,
-      carries-pass _ _ (head .loop .i) _ _ _ _ _ (long (head .before)) (head .loop .inv .3) (in-loop .loop-test .taken) _ _ (at-wanted .wanted .ensures)
+      carries-pass _ _ _ _ _ _ _ (head .loop .inv .3) _ (here at-item) _ _ (at-wanted .wanted .ensures)
           (at-both .both .ensures) (not-true _ (c .if1 .taken)),
     )
 
@@ -84,13 +87,13 @@ loop-again-2 c =
     let at-if = at-tried .before .before in
     let at-both = at-if .before in
     let at-wanted = at-both .before in
-    let in-loop = at-wanted .before .before in
-    let head = in-loop .before in (
+    let at-item = at-wanted .before in
+    let head = at-item .before .before in (
       omega arith,
       omega arith,
       head .loop .inv .2,
-      carries-none _ _ (head .loop .i) _ _ _ _ _ (long (head .before)) (head .loop .inv .3) (in-loop .loop-test .taken) _ _ (at-wanted .wanted .ensures)
-          (at-both .both .ensures) _ (at-tried .before .case2 .ensures) _ (at-tried .tried .ensures) (not-false _ (at-if .if1 .left))
+      carries-none _ _ _ _ _ _ _ (head .loop .inv .3) _ (here at-item) _ _ (at-wanted .wanted .ensures)
+          (at-both .both .ensures) _ (at-item .before .loop-test .taken) _ (at-tried .before .case2 .ensures) _ (at-tried .tried .ensures) (not-false _ (at-if .if1 .left))
           (c .enum-told .given .1),
     )
 
@@ -112,11 +115,11 @@ add-next c =
     let at-if = at-tried .before .before in
     let at-both = at-if .before in
     let at-wanted = at-both .before in
-    let in-loop = at-wanted .before .before in
-    let head = in-loop .before in
+    let at-item = at-wanted .before in
+    let head = at-item .before .before in
     let begins =
-    carries-begins _ _ (head .loop .i) _ _ _ _ _ (long (head .before)) (head .loop .inv .3) (in-loop .loop-test .taken) _ _ (at-wanted .wanted .ensures)
-    (at-both .both .ensures) _ (at-tried .before .case2 .ensures) _ (at-tried .tried .ensures) (not-false _ (at-if .if1 .left))
+    carries-begins _ _ _ _ _ _ _ (head .loop .inv .3) _ (here at-item) _ _ (at-wanted .wanted .ensures)
+    (at-both .both .ensures) _ (at-item .before .loop-test .taken) _ (at-tried .before .case2 .ensures) _ (at-tried .tried .ensures) (not-false _ (at-if .if1 .left))
     _ (c .before .before .found .given .1) in
     omega (arith, begins .2, head .before .pre)
 
@@ -132,15 +135,15 @@ loop-again-3 c =
     let at-if = at-tried .before .before in
     let at-both = at-if .before in
     let at-wanted = at-both .before in
-    let in-loop = at-wanted .before .before in
-    let head = in-loop .before in
-    let room : head .loop .count < length (head .loop .rows) = omega (arith, head .loop .inv, in-loop .loop-test .taken, head .before .pre) in (
+    let at-item = at-wanted .before in
+    let head = at-item .before .before in
+    let room : head .loop .count < length (head .loop .rows) = omega (arith, head .loop .inv, at-item .before .loop-test .taken, head .before .pre) in (
       omega arith,
       omega (arith, head .loop .inv),
       simp length-set (head .loop .inv .2),
-      rw (row-more (head .loop .rows) (head .loop .count) _ room)
-          (carries-some _ _ (head .loop .i) _ _ _ _ _ (long (head .before)) (head .loop .inv .3) (in-loop .loop-test .taken) _ _ (at-wanted .wanted .ensures)
-          (at-both .both .ensures) _ (at-tried .before .case2 .ensures) _ (at-tried .tried .ensures) (not-false _ (at-if .if1 .left))
+      rw (one-more (head .loop .rows) (head .loop .count) _ room)
+          (carries-some _ _ _ _ _ _ _ (head .loop .inv .3) _ (here at-item) _ _ (at-wanted .wanted .ensures)
+          (at-both .both .ensures) _ (at-item .before .loop-test .taken) _ (at-tried .before .case2 .ensures) _ (at-tried .tried .ensures) (not-false _ (at-if .if1 .left))
           _ (c .before .before .found .given .1)),
     )
 
@@ -149,7 +152,7 @@ returns c =
     let head = c .before in
     record {
       few = omega (arith, head .loop .inv, head .before .pre);
-      are = carries-all _ _ (head .loop .i) _ _ _ _ _ (long (head .before)) (head .loop .inv .3) (c .loop-test .left);
+      are = carries-all _ _ _ _ _ _ _ (head .loop .inv .3) (items-over _ _ _ _ _ (c .loop-test .left));
     }
 
 pub walk-spec : {M : Type 1} → statement M
@@ -159,9 +162,7 @@ walk-spec =
     Inv-loop
     μ-loop
     loop-holds
-    cast-x
-    mul-x
-    array-copy-out-x
+    item-at-requires
     wanted-requires
     both-requires
     add-i
