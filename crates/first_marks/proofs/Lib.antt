@@ -1,0 +1,4 @@
+pub mod Fits
+pub mod Insertion
+pub mod Neighbours
+pub mod Call

@@ -1,0 +1,296 @@
+-- `first_marks::marks_of` meets its contract. The invariant: the rows, and the marks of the classes that are left put into them, are the marks of all. Assumes nothing.
+use Prim.Native.Nat.{ℕ, _+_, _≤_, _-_}
+use native.Mathlib.Omega.{arith}
+use mathlib.Core.Path.{_≡_, refl, ap, sym, _∙_}
+use mathlib.Core.Bool.{true}
+use mathlib.Core.List.{[], foldl}
+use lib.ListN.{length, getD, take, drop}
+use Rattle.chart.specs.declared.Triple.{Triple}
+use Rattle.chart.specs.declared.Class.{Class}
+use Rattle.rules.specs.Records.{levelsOf}
+use Rattle.rules.specs.Answer.{given}
+use Rattle.rules.specs.FirstMarks.{fitting, firstsOf, insertFirst}
+use Rattle.laws.proofs.Answers.{given-rows}
+use Rattle.laws.proofs.Arrays.{length-via}
+use Rattle.classes.proofs.Extended.{no-class}
+use Rattle.first_marks.specs.Placed.{Placed}
+use Rattle.first_marks.proofs.Neighbours.{Reads, reads-first, reads-last, stands-at, first-unfit, first-short, first-beyond, marks-none, marks-some, marks-all}
+use borrow.Author.Tests.{not-true, not-false}
+use borrow.Author.Needs.{needs}
+use Rattle.first_marks.proofs.marks_of.Statement.{statement}
+use Rattle.first_marks.proofs.marks_of.Tie as tie
+
+abbrev Inv-loop : tie.InvT-loop
+Inv-loop n buy chart classes rows₀ count₀ i₀ rows count i =
+    (i ≤ n) × (count ≤ i) × (length rows ≡ 256)
+    × (foldl insertFirst (take count rows) (firstsOf (levelsOf chart) buy (drop i (take n classes)))
+    ≡ foldl insertFirst [] (firstsOf (levelsOf chart) buy (take n classes)))
+
+abbrev μ-loop : tie.MeasureT-loop
+μ-loop n buy chart classes rows₀ count₀ i₀ rows count i = n - i
+
+long : (c : tie.Start Inv-loop μ-loop) → c .args .n ≤ length (c .args .t2)
+long c = omega arith
+
+bigs-long : (c : tie.Start Inv-loop μ-loop) → length (c .args .t1 .bigs) ≡ 256
+bigs-long c = search (needs, length-via)
+
+segments-long : (c : tie.Start Inv-loop μ-loop) → length (c .args .t1 .segments) ≡ 256
+segments-long c = search (needs, length-via)
+
+strokes-long : (c : tie.Start Inv-loop μ-loop) → length (c .args .t1 .strokes) ≡ 512
+strokes-long c = search (needs, length-via)
+
+-- ---- the two classes of a turn, and the strokes that are read for them
+module _ (c : tie.In-loop Inv-loop μ-loop) where
+  abbrev i : ℕ
+  i = c .before .loop .i
+
+  abbrev start : tie.Start Inv-loop μ-loop
+  start = c .before .before
+
+  abbrev class : ℕ → Class
+  class j = getD (start .args .t2) j no-class
+
+  placed : Placed (levelsOf (start .args .t1)) (class i)
+  placed = stands-at _ _ i _ (start .pre .1) (omega (arith, c .loop-test .taken)) (long start)
+
+  placed-next : Placed (levelsOf (start .args .t1)) (class (i + 1))
+  placed-next = stands-at _ _ (i + 1) _ (start .pre .1) (omega (arith, c .loop-test .taken)) (long start)
+
+  begins : Reads (start .args .t1) (λ (t : Triple). t .first) (class i .first) (placed .from)
+  begins = reads-first (start .args .t1) _ placed
+
+  ends : Reads (start .args .t1) (λ (t : Triple). t .last) (class (i + 1) .last) (placed-next .to)
+  ends = reads-last (start .args .t1) _ placed-next
+
+-- ---- the turn whose classes fit, from the places behind its reads
+abbrev turn : tie.Else1 Inv-loop μ-loop → tie.In-loop Inv-loop μ-loop
+turn c = c .before .before .before .before
+
+fits : (c : tie.Else1 Inv-loop μ-loop) → fitting (start (turn c) .args .buy) (class (turn c) (i (turn c))) (class (turn c) (i (turn c) + 1)) ≡ true
+fits c = sym (c .before .fitting .ensures) ∙ not-false _ (c .if1 .left)
+
+abbrev from-a : tie.After-struct-known2 Inv-loop μ-loop → tie.Else1 Inv-loop μ-loop
+from-a c = c .before .before .before
+
+abbrev from-s : tie.After-struct-known3 Inv-loop μ-loop → tie.Else1 Inv-loop μ-loop
+from-s c = from-a (c .before .before)
+
+abbrev from-closing : tie.After-struct-known4 Inv-loop μ-loop → tie.Else1 Inv-loop μ-loop
+from-closing c = from-s (c .before .before)
+
+abbrev from-z : tie.After-struct-known5 Inv-loop μ-loop → tie.Else1 Inv-loop μ-loop
+from-z c = from-closing (c .before .before)
+
+abbrev from-e : tie.After-struct-known6 Inv-loop μ-loop → tie.Else1 Inv-loop μ-loop
+from-e c = from-z (c .before .before)
+
+abbrev compared : tie.After-beyond Inv-loop μ-loop → tie.Else1 Inv-loop μ-loop
+compared c = from-e (c .before .before)
+
+-- the rows behind a mark that was put in
+rows-long : (c : tie.After-inserted Inv-loop μ-loop) → length (c .inserted .result .rows) ≡ 256
+rows-long c = search (needs, length-via, c .inserted .ok)
+
+loop-holds : tie.Need-loop-holds Inv-loop μ-loop
+loop-holds c = (omega arith, omega arith, refl, refl)
+
+add-loop : tie.Need-add-loop Inv-loop μ-loop
+add-loop c = search needs
+
+cast-q : tie.Need-cast-q Inv-loop μ-loop
+cast-q c = search needs
+
+mul-q : tie.Need-mul-q Inv-loop μ-loop
+mul-q c = search needs
+
+array-copy-out-q : tie.Need-array-copy-out-q Inv-loop μ-loop
+array-copy-out-q c = search needs
+
+add-next : tie.Need-add-next Inv-loop μ-loop
+add-next c = search needs
+
+cast-next : tie.Need-cast-next Inv-loop μ-loop
+cast-next c = search needs
+
+mul-next : tie.Need-mul-next Inv-loop μ-loop
+mul-next c = search needs
+
+array-copy-out-next : tie.Need-array-copy-out-next Inv-loop μ-loop
+array-copy-out-next c = search needs
+
+fitting-requires : tie.Need-fitting-requires Inv-loop μ-loop
+fitting-requires c κs = search needs
+
+add-i : tie.Need-add-i Inv-loop μ-loop
+add-i c = search needs
+
+loop-less : tie.Need-loop-less Inv-loop μ-loop
+loop-less c = search needs
+
+loop-again : tie.Need-loop-again Inv-loop μ-loop
+loop-again c =
+    let at = c .before .before .before .before in
+    let inv = at .before .loop .inv in (
+      omega arith,
+      omega (arith, inv .1),
+      inv .2,
+      marks-none _ _ _ (i at) _ _ _ (long (start at)) (inv .3) (at .loop-test .taken)
+          (first-unfit _ _ _ _ (placed at) (placed-next at) (sym (c .before .fitting .ensures) ∙ not-true _ (c .if1 .taken))),
+    )
+
+cast-opening : tie.Need-cast-opening Inv-loop μ-loop
+cast-opening c = search needs
+
+mul-opening : tie.Need-mul-opening Inv-loop μ-loop
+mul-opening c = search needs
+
+element-copy-out-opening : tie.Need-element-copy-out-opening Inv-loop μ-loop
+element-copy-out-opening c = let at = turn (c .before) in omega (arith, begins at .bigs, bigs-long (start at))
+
+cast-a : tie.Need-cast-a Inv-loop μ-loop
+cast-a c = search needs
+
+mul-a : tie.Need-mul-a Inv-loop μ-loop
+mul-a c = search needs
+
+element-copy-out-a : tie.Need-element-copy-out-a Inv-loop μ-loop
+element-copy-out-a c = let at = turn (from-a c) in omega (arith, begins at .segments, segments-long (start at))
+
+cast-s : tie.Need-cast-s Inv-loop μ-loop
+cast-s c = search needs
+
+mul-s : tie.Need-mul-s Inv-loop μ-loop
+mul-s c = search needs
+
+element-copy-out-s : tie.Need-element-copy-out-s Inv-loop μ-loop
+element-copy-out-s c = let at = turn (from-s c) in omega (arith, begins at .strokes, strokes-long (start at))
+
+cast-closing : tie.Need-cast-closing Inv-loop μ-loop
+cast-closing c = search needs
+
+mul-closing : tie.Need-mul-closing Inv-loop μ-loop
+mul-closing c = search needs
+
+element-copy-out-closing : tie.Need-element-copy-out-closing Inv-loop μ-loop
+element-copy-out-closing c = let at = turn (from-closing c) in omega (arith, ends at .bigs, bigs-long (start at))
+
+cast-z : tie.Need-cast-z Inv-loop μ-loop
+cast-z c = search needs
+
+mul-z : tie.Need-mul-z Inv-loop μ-loop
+mul-z c = search needs
+
+element-copy-out-z : tie.Need-element-copy-out-z Inv-loop μ-loop
+element-copy-out-z c = let at = turn (from-z c) in omega (arith, ends at .segments, segments-long (start at))
+
+cast-e : tie.Need-cast-e Inv-loop μ-loop
+cast-e c = search needs
+
+mul-e : tie.Need-mul-e Inv-loop μ-loop
+mul-e c = search needs
+
+element-copy-out-e : tie.Need-element-copy-out-e Inv-loop μ-loop
+element-copy-out-e c = let at = turn (from-e c) in omega (arith, ends at .strokes, strokes-long (start at))
+
+beyond-requires : tie.Need-beyond-requires Inv-loop μ-loop
+beyond-requires c κs = search needs
+
+add-i-2 : tie.Need-add-i-2 Inv-loop μ-loop
+add-i-2 c = search needs
+
+loop-less-2 : tie.Need-loop-less-2 Inv-loop μ-loop
+loop-less-2 c = search needs
+
+loop-again-2 : tie.Need-loop-again-2 Inv-loop μ-loop
+loop-again-2 c =
+    let fitted = compared (c .before) in
+    let at = turn fitted in
+    let inv = at .before .loop .inv in (
+      omega (arith, at .loop-test .taken),
+      omega (arith, inv .1),
+      inv .2,
+      marks-none _ _ _ (i at) _ _ _ (long (start at)) (inv .3) (at .loop-test .taken)
+          (first-short _ _ _ _ (placed at) (placed-next at) _ _ (begins at .same) (ends at .same) (fits fitted)
+          (sym (c .before .beyond .ensures) ∙ not-true _ (c .if2 .taken))),
+    )
+
+inserted-requires : tie.Need-inserted-requires Inv-loop μ-loop
+inserted-requires c κs = search needs
+
+add-i-3 : tie.Need-add-i-3 Inv-loop μ-loop
+add-i-3 c = search needs
+
+loop-less-3 : tie.Need-loop-less-3 Inv-loop μ-loop
+loop-less-3 c = search needs
+
+loop-again-3 : tie.Need-loop-again-3 Inv-loop μ-loop
+loop-again-3 c =
+    let at-if = c .before .before in
+    let fitted = compared (at-if .before) in
+    let at = turn fitted in
+    let inv = at .before .loop .inv in
+    let put = c .before .inserted .ensures in (
+      omega (arith, at .loop-test .taken),
+      omega (arith, put .0, inv .1),
+      rows-long (c .before),
+      rw (put .1)
+          (marks-some _ _ _ (i at) _ _ _ (long (start at)) (inv .3) (at .loop-test .taken) _
+          (first-beyond _ _ _ _ (placed at) (placed-next at) _ _ (begins at .same) (ends at .same) (fits fitted)
+          (sym (at-if .before .beyond .ensures) ∙ not-false _ (at-if .if2 .left)))),
+    )
+
+returns : tie.Need-returns Inv-loop μ-loop
+returns c =
+    let head = c .before in
+    let inv = head .loop .inv in
+    given-rows (head .loop .rows) (head .loop .count) (omega (arith, inv, head .before .pre .0))
+    ∙ ap given (marks-all _ _ _ (head .loop .i) _ _ _ (long (head .before)) (inv .3) (c .loop-test .left))
+
+pub marks-of-spec : {M : Type 1} → statement M
+marks-of-spec =
+    tie.close
+    (tie.spec
+    Inv-loop
+    μ-loop
+    loop-holds
+    add-loop
+    cast-q
+    mul-q
+    array-copy-out-q
+    add-next
+    cast-next
+    mul-next
+    array-copy-out-next
+    fitting-requires
+    add-i
+    loop-less
+    loop-again
+    cast-opening
+    mul-opening
+    element-copy-out-opening
+    cast-a
+    mul-a
+    element-copy-out-a
+    cast-s
+    mul-s
+    element-copy-out-s
+    cast-closing
+    mul-closing
+    element-copy-out-closing
+    cast-z
+    mul-z
+    element-copy-out-z
+    cast-e
+    mul-e
+    element-copy-out-e
+    beyond-requires
+    add-i-2
+    loop-less-2
+    loop-again-2
+    inserted-requires
+    add-i-3
+    loop-less-3
+    loop-again-3
+    returns)
