@@ -92,30 +92,46 @@ fn whole_bigs(c: &Chart) -> bool {
     c.bigs.len() < 2 || c.bigs.iter().all(|b| c.segments.get(b.0).map_or(false, |s| s.0 < n) && c.segments.get(b.1).map_or(false, |s| s.1 < n))
 }
 
+// a section with a case-3 byte; none: refused
+fn section(head: &str, on: bool, rows: Option<Vec<String>>, out: &mut String) {
+    let head = format!("{head} case3={}", on as u8);
+    match rows {
+        None => *out += &format!("{head} refused 10\n"),
+        Some(rows) => {
+            *out += &format!("{head} {}\n", rows.len());
+            for r in rows { *out += &format!("{r}\n"); }
+        }
+    }
+}
+
+fn cases(on: bool) -> chanlun::StrokeCases { chanlun::StrokeCases { case3: on, case4: false } }
+
+fn class(first: usize, last: usize, up: bool, by: u8, extended: bool, adjacent: bool) -> String {
+    format!("{first} {last} {} {by} {} {}", up as u8, extended as u8, adjacent as u8)
+}
+
 fn classes(c: &Chart, out: &mut String) {
     for on in [false, true] {
-        let cases = chanlun::StrokeCases { case3: on, case4: false };
-        if whole_segments(c) {
-            let ks = z::classify_big_segments(&c.strokes, &c.segments, cases);
-            *out += &format!("CLASSES seg case3={} {}\n", on as u8, ks.len());
-            for k in ks { *out += &format!("{} {} {} {} {} {}\n", k.start_seg, k.end_seg, k.is_up as u8, if k.build == z::BigSegBuild::Case3 { 3 } else { 2 }, k.extended as u8, k.base_adjacent as u8); }
-        } else { *out += &format!("CLASSES seg case3={} refused 10\n", on as u8); }
-        if whole_bigs(c) {
-            let ks = z::classify_sup_segments(&c.strokes, &c.segments, &c.bigs, cases);
-            *out += &format!("CLASSES big case3={} {}\n", on as u8, ks.len());
-            for k in ks { *out += &format!("{} {} {} {} {} {}\n", k.start_big, k.end_big, k.is_up as u8, if k.build == z::SupBuild::Case3 { 3 } else { 2 }, k.extended as u8, k.base_adjacent as u8); }
-        } else { *out += &format!("CLASSES big case3={} refused 10\n", on as u8); }
+        let ks = whole_segments(c).then(|| z::classify_big_segments(&c.strokes, &c.segments, cases(on)));
+        let by = |b| match b { z::BigSegBuild::Case2 => 2, z::BigSegBuild::Case3 => 3, z::BigSegBuild::Case4 => 4 };
+        let rows = ks.map(|ks| ks.iter().map(|k| class(k.start_seg, k.end_seg, k.is_up, by(k.build), k.extended, k.base_adjacent)).collect());
+        section("CLASSES seg", on, rows, out);
+    }
+    for on in [false, true] {
+        let ks = whole_bigs(c).then(|| z::classify_sup_segments(&c.strokes, &c.segments, &c.bigs, cases(on)));
+        let by = |b| match b { z::SupBuild::Case2 => 2, z::SupBuild::Case3 => 3, z::SupBuild::Case4 => 4 };
+        let rows = ks.map(|ks| ks.iter().map(|k| class(k.start_big, k.end_big, k.is_up, by(k.build), k.extended, k.base_adjacent)).collect());
+        section("CLASSES big", on, rows, out);
     }
 }
 
 fn firsts(c: &Chart, out: &mut String) {
-    for (name, buy) in [("FIRSTBUY", true), ("FIRSTSELL", false)] {
+    for buy in [true, false] {
+        let marks = if buy { z::detect_bigseg_first_buy_markers } else { z::detect_bigseg_first_sell_markers };
         for on in [false, true] {
-            let cases = chanlun::StrokeCases { case3: on, case4: false };
-            if !whole_bigs(c) { *out += &format!("{name} case3={} refused 10\n", on as u8); continue; }
-            let ms = if buy { z::detect_bigseg_first_buy_markers(&c.strokes, &c.segments, &c.bigs, cases) } else { z::detect_bigseg_first_sell_markers(&c.strokes, &c.segments, &c.bigs, cases) };
-            *out += &format!("{name} case3={} {}\n", on as u8, ms.len());
-            for m in ms { *out += &format!("{} {}\n", m.bar_index, hex(m.price)); }
+            let ms = whole_bigs(c).then(|| marks(&c.strokes, &c.segments, &c.bigs, cases(on)));
+            let rows = ms.map(|ms| ms.iter().map(|m| format!("{} {}", m.bar_index, hex(m.price))).collect());
+            section(if buy { "FIRSTBUY" } else { "FIRSTSELL" }, on, rows, out);
         }
     }
 }

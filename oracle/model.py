@@ -425,9 +425,8 @@ def report(c):
     if many: o += ['THREEN refused 11']
     elif any(s[2] >= len(c.highs) for s in c.strokes): o += ['THREEN refused 9']
     else: o += section('THREEN', [f'{side(m[0])} {m[1]} {m[2]} {hx(m[3])}' for m in n3(c)])
-    for b in (0, 1):
-        o += tried(f'CLASSES seg case3={b}', lambda: class_rows(b, seg_items(c)))
-        o += tried(f'CLASSES big case3={b}', lambda: class_rows(b, big_items(c)))
+    for head, items in (('seg', seg_items), ('big', big_items)):
+        for b in (0, 1): o += tried(f'CLASSES {head} case3={b}', lambda: class_rows(b, items(c)))
     for head, buy in (('FIRSTBUY', True), ('FIRSTSELL', False)):
         for b in (0, 1): o += tried(f'{head} case3={b}', lambda: [f'{m[0]} {hx(m[1])}' for m in first_marks(c, b, buy)])
     return o

@@ -1,6 +1,9 @@
 // The rows of `report`, written to standard output. Of printing only safety is proved.
+use chart::Class;
+use chart::FirstMark;
 use chart::Label;
 use chart::Zone;
+ghost use Prim.Native.Nat.{_≤_};
 
 // The lowest four bits of n, as an upper-case hexadecimal digit.
 fn digit(n: u64) -> u8 {
@@ -45,9 +48,8 @@ fn print_number(n: u16) {
     io::write_all(1, b" ");
 }
 
-// A section's head: its name and how many rows follow, or the number with which it is refused.
-pub fn print_head(name: &[u8], number: u8, count: u16) {
-    io::write_all(1, name);
+// The end of a section's head: how many rows follow, or the number with which the call is refused.
+fn print_answer(number: u8, count: u16) {
     if number == 0 {
         io::write_all(1, b" ");
         io::print_decimal(1, count as u64);
@@ -56,6 +58,30 @@ pub fn print_head(name: &[u8], number: u8, count: u16) {
         io::print_decimal(1, number as u64);
     }
     io::write_all(1, b"\n");
+}
+
+// A section's head.
+pub fn print_head(name: &[u8], number: u8, count: u16) {
+    io::write_all(1, name);
+    print_answer(number, count);
+}
+
+// The head of a section of a case-3 byte.
+pub fn print_case3_head(name: &[u8], case3: u8, number: u8, count: u16) {
+    io::write_all(1, name);
+    io::write_all(1, b" case3=");
+    io::print_decimal(1, case3 as u64);
+    print_answer(number, count);
+}
+
+// How many rows are printed: as many as there are, and no more than an array has.
+fn shown(count: u16) -> usize
+    ensures { λ r. ⌜ r ≤ 256 ⌝ }
+{
+    if count < 256 {
+        return count as usize;
+    }
+    256
 }
 
 // A row of the section ZONES.
@@ -73,14 +99,8 @@ fn print_zone(z: Zone) {
 }
 
 pub fn print_zones(rows: [Zone; 256], count: u16) {
-    let mut i = 0u16;
-    while i < count {
-        if 256 <= i {
-            return;
-        }
-        let k = i as usize;
-        print_zone(rows[k]);
-        i += 1;
+    for i in 0..shown(count) {
+        print_zone(rows[i]);
     }
 }
 
@@ -98,14 +118,38 @@ fn print_label(l: Label) {
 }
 
 pub fn print_labels(rows: [Label; 256], count: u16) {
-    let mut i = 0u16;
-    while i < count {
-        if 256 <= i {
-            return;
-        }
-        let k = i as usize;
-        print_label(rows[k]);
-        i += 1;
+    for i in 0..shown(count) {
+        print_label(rows[i]);
+    }
+}
+
+// A row of a section CLASSES.
+fn print_class(k: Class) {
+    print_number(k.first);
+    print_number(k.last);
+    print_number(k.direction as u16);
+    print_number(if k.by_case3 { 3 } else { 2 });
+    print_number(k.extended as u16);
+    io::print_decimal(1, k.base_adjacent as u64);
+    io::write_all(1, b"\n");
+}
+
+pub fn print_classes(rows: [Class; 256], count: u16) {
+    for i in 0..shown(count) {
+        print_class(rows[i]);
+    }
+}
+
+// A row of a section of first marks.
+fn print_first(m: FirstMark) {
+    print_number(m.bar_index);
+    io::write_all(1, &hex_of(m.price));
+    io::write_all(1, b"\n");
+}
+
+pub fn print_firsts(rows: [FirstMark; 256], count: u16) {
+    for i in 0..shown(count) {
+        print_first(rows[i]);
     }
 }
 

@@ -1,6 +1,8 @@
 // What `report` prints of a chart file: a section for each call that is built. Of printing only safety is proved; each row comes from a
 // proved call.
 use chart::Chart;
+use classes::ClassRows;
+use first_marks::FirstRows;
 
 fn print_zones(chart: Chart) {
     let found = zones::detect_bigseg_zhongshus_by_overlap(chart);
@@ -16,6 +18,52 @@ fn print_labels(chart: Chart) {
     printing::print_labels(rows, found.count);
 }
 
+// The classes of a level, with a case-3 byte.
+fn print_classes(level: &[u8], case3: u8, found: ClassRows) {
+    printing::print_case3_head(level, case3, found.number, found.count);
+    let rows = found.rows;
+    printing::print_classes(rows, found.count);
+}
+
+fn print_segment_classes(chart: Chart, case3: u8) {
+    print_classes(
+        b"CLASSES seg",
+        case3,
+        classes::classify_big_segments(chart, case3),
+    );
+}
+
+fn print_big_classes(chart: Chart, case3: u8) {
+    print_classes(
+        b"CLASSES big",
+        case3,
+        classes::classify_sup_segments(chart, case3),
+    );
+}
+
+// The first marks of a side, with a case-3 byte.
+fn print_firsts(side: &[u8], case3: u8, found: FirstRows) {
+    printing::print_case3_head(side, case3, found.number, found.count);
+    let rows = found.rows;
+    printing::print_firsts(rows, found.count);
+}
+
+fn print_first_buys(chart: Chart, case3: u8) {
+    print_firsts(
+        b"FIRSTBUY",
+        case3,
+        first_marks::detect_bigseg_first_buy_markers(chart, case3),
+    );
+}
+
+fn print_first_sells(chart: Chart, case3: u8) {
+    print_firsts(
+        b"FIRSTSELL",
+        case3,
+        first_marks::detect_bigseg_first_sell_markers(chart, case3),
+    );
+}
+
 // All sections, or `refused N at P` alone. A file has at most 2,048 bars.
 pub fn print_report(file: &[u8]) {
     let mut highs = [0.0; 2048];
@@ -28,4 +76,12 @@ pub fn print_report(file: &[u8]) {
     let chart = read.chart;
     print_zones(chart);
     print_labels(chart);
+    print_segment_classes(chart, 0);
+    print_segment_classes(chart, 1);
+    print_big_classes(chart, 0);
+    print_big_classes(chart, 1);
+    print_first_buys(chart, 0);
+    print_first_buys(chart, 1);
+    print_first_sells(chart, 0);
+    print_first_sells(chart, 1);
 }

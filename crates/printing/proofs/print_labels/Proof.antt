@@ -5,19 +5,16 @@ use Rattle.printing.proofs.print_labels.Statement.{statement}
 use Rattle.printing.proofs.print_labels.Tie as tie
 
 abbrev Inv-loop : tie.InvT-loop
-Inv-loop count rows i₀ i = i ≤ count
+Inv-loop count rows i₀ i-end i = (i ≤ i-end) × (i-end ≤ 256)
 
 abbrev μ-loop : tie.MeasureT-loop
-μ-loop count rows i₀ i = count - i
+μ-loop count rows i₀ i-end i = i-end - i
+
+shown-requires : tie.Need-shown-requires Inv-loop μ-loop
+shown-requires c κs = search needs
 
 loop-holds : tie.Need-loop-holds Inv-loop μ-loop
 loop-holds c = search needs
-
-returns : tie.Need-returns Inv-loop μ-loop
-returns c = search needs
-
-cast-k : tie.Need-cast-k Inv-loop μ-loop
-cast-k c = search needs
 
 mul-print-label : tie.Need-mul-print-label Inv-loop μ-loop
 mul-print-label c = search needs
@@ -37,8 +34,8 @@ loop-less c = search needs
 loop-again : tie.Need-loop-again Inv-loop μ-loop
 loop-again c = search needs
 
-returns-2 : tie.Need-returns-2 Inv-loop μ-loop
-returns-2 c = search needs
+returns : tie.Need-returns Inv-loop μ-loop
+returns c = search needs
 
 pub print-labels-spec : {M : Type 1} → statement M
 print-labels-spec =
@@ -46,13 +43,12 @@ print-labels-spec =
     (tie.spec
     Inv-loop
     μ-loop
+    shown-requires
     loop-holds
-    returns
-    cast-k
     mul-print-label
     array-copy-out-print-label
     print-label-requires
     add-i
     loop-less
     loop-again
-    returns-2)
+    returns)
