@@ -9,6 +9,7 @@ pub mod Ranges
 pub mod Opposing
 pub mod Layer
 pub mod Zones
+pub mod Owned
 pub mod Derived
 pub mod Kept
 pub mod Whole

@@ -1,0 +1,13 @@
+-- `scan::turns` meets its contract. Assumes nothing.
+use borrow.Author.Tests.{eq-eqb, ne-eqb}
+use Rattle.scan.proofs.turns.Statement.{statement}
+use Rattle.scan.proofs.turns.Tie as tie
+
+returns : tie.Need-returns
+returns c = rw (ne-eqb _ _ (c .if1 .taken))
+
+returns-2 : tie.Need-returns-2
+returns-2 c = rw (eq-eqb _ _ (c .if1 .left))
+
+pub turns-spec : {M : Type 1} → statement M
+turns-spec = tie.close (tie.spec returns returns-2)

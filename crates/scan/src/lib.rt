@@ -1,0 +1,378 @@
+// The scan of a zone's pairs, for third and 3+N marks: where it starts, what stops it, and the next pair. Bigs, superiors and zones are
+// lent as columns; a bar in a column is counted from 1, and 0 stands for none.
+use chart::Chart;
+use chart::Triple;
+use chart::Zone;
+ghost use mathlib.Core.Path.{_≡_};
+ghost use mathlib.Core.Bool.{Bool, false, not, _&&_, _||_, Bool·beq};
+ghost use mathlib.Core.List.{List, map};
+ghost use Prim.Native.Nat.{ℕ, suc, _+_, _-_, _≤_, _<_, min};
+ghost use lib.ListN.{length, take, drop};
+ghost use lib.Dec.{eqb, leb, ltb};
+ghost use lib.Ieee.{Float};
+ghost use Rattle.chart.specs.declared.Triple.{Triple};
+ghost use Rattle.chart.specs.declared.Zone.{Zone};
+ghost use Rattle.rules.specs.Lists.{any};
+ghost use Rattle.rules.specs.Records.{isUp, Levels, levelsOf, Quotes};
+ghost use Rattle.rules.specs.Ranges.{rangeOf, lastStroke};
+ghost use Rattle.rules.specs.Marks.{superiorOf, leaving, reachesZone, superiorEnd, pairEnds, quote};
+ghost use Rattle.columns.specs.Columns.{Column, startOf, endOf, barOf};
+ghost use Rattle.scan.specs.Scan.{reached, overAt, offered, reversalIn, pairsBy, Later, ZoneScan, Scanning, ScansOf, NextEnd, quoteOf, quotesRefusal};
+
+// ---- where it starts
+
+// The smaller of two.
+fn at_most(n: usize, m: usize) -> usize
+    ensures { λ r. ⌜ r ≡ min n m ⌝ }
+{
+    if n < m { n } else { m }
+}
+
+// The place of the first big from `first` to `last` that starts at bar e or later, and one past the last where there is none; m where
+// that is behind all m bigs. A big whose range is missing has no start bar.
+pub fn start_of(starts: &[u32], m: usize, first: usize, last: usize, e: u32) -> usize
+    requires { ⌜ (m ≤ length (now starts)) × (m ≤ 256) × (last < 65536) ⌝ }
+    ensures { λ r. ⌜ r ≤ m ⌝ }
+    ensures { λ r. ⌜ ((c : Levels) → Column startOf m (now (starts .entry)) (map (rangeOf c) (c .bigs)) → leaving c e (suc last - first) (drop first (c .bigs)) ≡ drop r (c .bigs)) ⌝ }
+{
+    let end = at_most(last + 1, m);
+    let mut k = first;
+    while k < end {
+        if e < starts[k] {
+            return k;
+        }
+        k += 1;
+    }
+    at_most(k, m)
+}
+
+// ---- what stops it
+
+// The start bar of a zone where it is of another superior than h and starts behind bar e, and the bar behind all elsewhere.
+fn offered(h: u16, e: u16, owner: u16, start: u16) -> u32
+    ensures { λ r. ⌜ (r ≡ offered h e owner start) × (r ≤ 0x1_0000) × (start < 0x1_0000) ⌝ }
+{
+    if owner == h {
+        return 65536;
+    }
+    if e < start { start as u32 } else { 65536 }
+}
+
+fn nearer(a: u32, b: u32) -> u32
+    ensures { λ r. ⌜ r ≡ min a b ⌝ }
+{
+    if a < b { a } else { b }
+}
+
+// The least start bar of a zone of another superior than h that starts behind bar e. Every zone is looked at, with no test that ends the
+// loop, so that many can be taken at once.
+pub fn next_zone(owners: &[u16], starts: &[u16], n: usize, h: u16, e: u16) -> u32
+    requires { ⌜ (n ≤ length (now owners)) × (n ≤ length (now starts)) ⌝ }
+    ensures { λ r. ⌜ ((zs : List Zone) (z : Zone) → Column (λ (y : Zone). y .«sup_idx») n (now (owners .entry)) zs → Column (λ (y : Zone). y .«start_bar») n (now (starts .entry)) zs → z .«sup_idx» ≡ h → z .«end_bar» ≡ e → (bar : ℕ) → reached r bar ≡ reachesZone zs z bar) ⌝ }
+{
+    let mut least = 65536u32;
+    let mut i = 0usize;
+    while i < n {
+        let start = offered(h, e, owners[i], starts[i]);
+        least = nearer(least, start);
+        i += 1;
+    }
+    if least == 65536 { 0 } else { least + 1 }
+}
+
+// Whether a superior is not of direction d and ends behind `after`.
+fn turns(d: u8, after: u32, way: u8, end: u32) -> bool
+    ensures { λ r. ⌜ r ≡ (not (eqb way d) && ltb after end) ⌝ }
+{
+    way != d && after < end
+}
+
+// The first end bar behind e among the superiors from place `from` on that are not of direction d.
+pub fn reversal(ways: &[u8], ends: &[u32], n: usize, from: usize, d: u8, e: u16) -> u32
+    requires { ⌜ (n ≤ length (now ways)) × (n ≤ length (now ends)) ⌝ }
+    ensures { λ r. ⌜ ((c : Levels) → Column (λ (t : Triple). t .direction) n (now (ways .entry)) (c .superiors) → Column (λ (t : Triple). barOf (superiorEnd c t)) n (now (ends .entry)) (c .superiors) → r ≡ barOf (reversalIn c d e (drop from (c .superiors)))) ⌝ }
+{
+    let after = e as u32 + 1;
+    let mut i = from;
+    while i < n {
+        if turns(d, after, ways[i], ends[i]) {
+            return ends[i];
+        }
+        i += 1;
+    }
+    0
+}
+
+// The nearer of two limits, each of which may be none.
+pub fn limit_of(a: u32, b: u32) -> u32
+    ensures { λ r. ⌜ ((bar : ℕ) → reached r bar ≡ (reached a bar || reached b bar)) ⌝ }
+{
+    if a == 0 {
+        return b;
+    }
+    if b == 0 {
+        return a;
+    }
+    nearer(a, b)
+}
+
+// ---- pairs
+
+// The next pair of the scan: the place behind its first big, and the end bar of its second.
+pub enum Pair {
+    At(usize, usize),
+    Over,
+}
+
+// Whether the scan is over at a range's end bar: it is missing, or reaches the limit.
+fn over(limit: u32, bar: u32) -> bool
+    ensures { λ r. ⌜ r ≡ overAt limit bar ⌝ }
+{
+    if bar == 0 {
+        return true;
+    }
+    if limit == 0 {
+        return false;
+    }
+    limit <= bar
+}
+
+// The bar itself of one that is counted from 1.
+pub fn bar_at(column: u32) -> usize
+    requires { ⌜ 0 < column ⌝ }
+    ensures { λ r. ⌜ r ≡ column - 1 ⌝ }
+{
+    (column - 1) as usize
+}
+
+// From big `from` on: stop when there is no big k + 1, its range is missing or its end bar reaches the limit; skip k when its direction
+// isn't d.
+pub fn next_pair(ways: &[u8], ends: &[u32], m: usize, d: u8, limit: u32, from: usize) -> Pair
+    requires { ⌜ (m ≤ length (now ways)) × (m ≤ length (now ends)) × (m ≤ 256) × (from < 65536) ⌝ }
+    ensures { λ r. ⌜ Later from m r ⌝ }
+    ensures { λ r. ⌜ ((c : Levels) (stop : ℕ → Bool) → Column (λ (t : Triple). t .direction) m (now (ways .entry)) (c .bigs) → Column endOf m (now (ends .entry)) (map (rangeOf c) (c .bigs)) → ((bar : ℕ) → stop bar ≡ reached limit bar) → pairEnds c stop d (drop from (c .bigs)) ≡ pairsBy (pairEnds c stop d) (c .bigs) r) ⌝ }
+{
+    let mut k = from;
+    while k + 1 < m {
+        let bar = ends[k + 1];
+        if over(limit, bar) {
+            return Pair::Over;
+        }
+        if ways[k] == d {
+            return Pair::At(k + 1, bar_at(bar));
+        }
+        k += 1;
+    }
+    Pair::Over
+}
+
+// ---- the scans of all zones
+
+// Where the scan of a zone starts, and the limit that stops it.
+struct Bounds {
+    from: u16,
+    limit: u32,
+}
+
+// The scan of zone z, whose superior is s. Lent are the start bars of m bigs, the directions and end bars of h superiors, and the
+// superiors and start bars of n zones.
+fn bounds_of(
+    z: Zone,
+    s: Triple,
+    starts: &[u32],
+    m: usize,
+    ways: &[u8],
+    ends: &[u32],
+    h: usize,
+    owners: &[u16],
+    zone_starts: &[u16],
+    n: usize,
+) -> Bounds
+    requires { ⌜ (m ≤ 256) × (m ≤ length (now starts)) × (h ≤ length (now ways)) × (h ≤ length (now ends)) × (n ≤ length (now owners)) × (n ≤ length (now «zone_starts»)) ⌝ }
+    ensures { λ r. ⌜ ((c : Levels) (zs : List Zone) → superiorOf c z ≡ s → Column startOf m (now (starts .entry)) (map (rangeOf c) (c .bigs)) → Column (λ (t : Triple). t .direction) h (now (ways .entry)) (c .superiors) → Column (λ (t : Triple). barOf (superiorEnd c t)) h (now (ends .entry)) (c .superiors) → Column (λ (y : Zone). y .«sup_idx») n (now (owners .entry)) zs → Column (λ (y : Zone). y .«start_bar») n (now («zone_starts» .entry)) zs → ZoneScan c zs z (s .direction) (r .from) (r .limit)) ⌝ }
+{
+    let from = start_of(
+        starts,
+        m,
+        s.first as usize,
+        s.last as usize,
+        z.end_bar as u32,
+    );
+    let near = next_zone(owners, zone_starts, n, z.sup_idx, z.end_bar);
+    let turn = reversal(
+        ways,
+        ends,
+        h,
+        z.sup_idx as usize + 1,
+        s.direction,
+        z.end_bar,
+    );
+    Bounds {
+        from: from as u16,
+        limit: limit_of(near, turn),
+    }
+}
+
+// Of each zone: the direction of its superior, and the bounds of its scan.
+struct ZoneScans {
+    sides: [u8; 256],
+    froms: [u16; 256],
+    limits: [u32; 256],
+}
+
+// The scans of the first n zones, whose superiors are among the first h. The two stops of a zone are worked out once.
+fn zone_scans(
+    zones: [Zone; 256],
+    n: usize,
+    superiors: [Triple; 256],
+    h: usize,
+    starts: &[u32],
+    m: usize,
+    ways: &[u8],
+    ends: &[u32],
+) -> ZoneScans
+    requires { ⌜ (n ≤ 256) × (h ≤ 256) × (m ≤ 256) × (m ≤ length (now starts)) × (h ≤ length (now ways)) × (h ≤ length (now ends)) ⌝ }
+    requires { ⌜ any (λ (z : Zone). leb h (z .«sup_idx»)) (take n zones) ≡ false ⌝ }
+    ensures { λ r. ⌜ ((c : Levels) → take h superiors ≡ c .superiors → Column startOf m (now (starts .entry)) (map (rangeOf c) (c .bigs)) → Column (λ (t : Triple). t .direction) h (now (ways .entry)) (c .superiors) → Column (λ (t : Triple). barOf (superiorEnd c t)) h (now (ends .entry)) (c .superiors) → Scanning c (take n zones) n (r .sides) (r .froms) (r .limits)) ⌝ }
+{
+    let of_zones = columns::zone_bars(zones, n);
+    let owners = of_zones.owners;
+    let zone_starts = of_zones.starts;
+    let mut sides = [0u8; 256];
+    let mut froms = [0u16; 256];
+    let mut limits = [0u32; 256];
+    let mut i = 0;
+    while i < n {
+        let z = zones[i];
+        let s = superiors[z.sup_idx as usize];
+        let b = bounds_of(z, s, starts, m, ways, ends, h, &owners, &zone_starts, n);
+        sides[i] = s.direction;
+        froms[i] = b.from;
+        limits[i] = b.limit;
+        i += 1;
+    }
+    ZoneScans {
+        sides,
+        froms,
+        limits,
+    }
+}
+
+// The columns of the bigs, directions and end bars, and the scans of the zones.
+pub struct Scans {
+    pub ways: [u8; 256],
+    pub ends: [u32; 256],
+    pub sides: [u8; 256],
+    pub froms: [u16; 256],
+    pub limits: [u32; 256],
+}
+
+// The scans of the first n zones, whose superiors are the chart's.
+pub fn scans_of(chart: Chart, zones: [Zone; 256], n: usize) -> Scans
+    requires { ⌜ (chart .«stroke_count» ≤ 512) × (chart .«segment_count» ≤ 256) × (chart .«big_count» ≤ 256) × (chart .«superior_count» ≤ 256) × (n ≤ 256) ⌝ }
+    requires { ⌜ any (λ (z : Zone). leb (chart .«superior_count») (z .«sup_idx»)) (take n zones) ≡ false ⌝ }
+    ensures { λ r. ⌜ ScansOf (levelsOf chart) (take n zones) n (chart .«big_count») r ⌝ }
+{
+    let m = chart.big_count as usize;
+    let h = chart.superior_count as usize;
+    let bigs = chart.bigs;
+    let ways = columns::ways_of(bigs, m);
+    let ranges = levels::ranges_of(chart);
+    let slots = ranges.slots;
+    let bars = columns::bars_of(slots, m);
+    let starts = bars.starts;
+    let ends = bars.ends;
+    let points = columns::points_of(chart);
+    let point_bars = points.bars;
+    let superiors = chart.superiors;
+    let superior_ways = columns::ways_of(superiors, h);
+    let superior_ends = columns::superior_ends(superiors, h, &point_bars, m);
+    let of_zones = zone_scans(
+        zones,
+        n,
+        superiors,
+        h,
+        &starts,
+        m,
+        &superior_ways,
+        &superior_ends,
+    );
+    let sides = of_zones.sides;
+    let froms = of_zones.froms;
+    let limits = of_zones.limits;
+    Scans {
+        ways,
+        ends,
+        sides,
+        froms,
+        limits,
+    }
+}
+
+// ---- ends of bigs, for anchors
+
+// Whether a big is of a direction and ends behind `after`.
+fn ends_behind(up: bool, after: u32, way: u8, bar: u32) -> bool
+    ensures { λ r. ⌜ r ≡ (Bool·beq (isUp way) up && ltb after bar) ⌝ }
+{
+    (way == 1) == up && after < bar
+}
+
+// The place from `from` on of the next big of a direction whose end bar is behind `after`, both counted from 1; m where there is none.
+pub fn next_end(ways: &[u8], bars: &[u32], m: usize, up: bool, after: u32, from: usize) -> usize
+    requires { ⌜ (m ≤ length (now ways)) × (m ≤ length (now bars)) ⌝ }
+    ensures { λ r. ⌜ r ≤ m ⌝ }
+    ensures { λ r. ⌜ ((c : Levels) (bar : ℕ) → Column (λ (t : Triple). t .direction) m (now (ways .entry)) (c .bigs) → Column barOf m (now (bars .entry)) (map (lastStroke c) (c .bigs)) → after ≡ suc bar → NextEnd c up bar m from r) ⌝ }
+{
+    let mut k = from;
+    while k < m {
+        if ends_behind(up, after, ways[k], bars[k]) {
+            return k;
+        }
+        k += 1;
+    }
+    m
+}
+
+// ---- lent prices
+
+// The lent price of a side at a bar, where the bar is inside the slice.
+pub enum Quote {
+    At(f64),
+    Outside,
+}
+
+// The low for buys, the high for sells.
+pub fn quote_at(highs: &[f64], lows: &[f64], buy: bool, bar: usize) -> Quote
+    ensures { λ r. ⌜ quoteOf r ≡ quote (record { highs = now (highs .entry); lows = now (lows .entry) }) buy bar ⌝ }
+{
+    if buy {
+        if lows.len() <= bar {
+            return Quote::Outside;
+        }
+        return Quote::At(lows[bar]);
+    }
+    if highs.len() <= bar {
+        return Quote::Outside;
+    }
+    Quote::At(highs[bar])
+}
+
+// 8 slices of unequal length or above 65,536; 1 in either slice.
+pub fn quotes_refusal(highs: &[f64], lows: &[f64]) -> u8
+    ensures { λ r. ⌜ r ≡ quotesRefusal (record { highs = now (highs .entry); lows = now (lows .entry) }) 0 ⌝ }
+{
+    if highs.len() != lows.len() {
+        return 8;
+    }
+    if 65536 < highs.len() {
+        return 8;
+    }
+    if !price::all_prices(highs) {
+        return 1;
+    }
+    if !price::all_prices(lows) {
+        return 1;
+    }
+    0
+}
