@@ -1,0 +1,5 @@
+pub mod Hits
+pub mod ZoneMarks
+pub mod Anchors
+pub mod Repeats
+pub mod Call
