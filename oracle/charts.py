@@ -26,8 +26,17 @@ def behind_lengths(files):
     """many files in one: each its length (u32) and its bytes"""
     return b"".join(struct.pack("<I", len(f)) + f for f in files)
 
+def cut(data):
+    """the files behind their lengths"""
+    out = []
+    while data:
+        n = 4 + struct.unpack("<I", data[:4])[0]
+        out.append(data[4:n])
+        data = data[n:]
+    return out
+
 # what `report` prints, in its order, as oracle/main.rs names it
-SECTIONS = ["zones", "labels", "classes", "firsts"]
+SECTIONS = ["zones", "third", "labels", "classes", "firsts"]
 
 def turns(points, up=True):
     """strokes from turn (bar, price) to turn"""
@@ -136,15 +145,81 @@ def items(n, lacking=()):
         rows[-1] = (rows[-1][0], rows[-1][1], 9)
     return c
 
-def full(superiors, seed=1):
-    """512 strokes, 256 segments of two, 256 bigs of one"""
+def steps(prices, superiors, lows, bigs={}, at={}, high=9.0):
+    """from price to price, each step a bar, a stroke, a segment and a big; bars with these lows and one high. `bigs`: those that are other triples;
+    `at`: strokes at other bars"""
+    s = [(int(p < q), *at.get(i, (i, i + 1)), float(p), float(q)) for i, (p, q) in enumerate(zip(prices, prices[1:]))]
+    return Chart(s, one_each(s), [bigs.get(i, b) for i, b in enumerate(one_each(s))], superiors, [(high, float(l)) for l in lows])
+
+# Where 01's third marks can be read two ways, or a test has a border: a chart on which the other reading gives other rows, by the reading's number
+# in docs/DECISIONS.md. A zone of one big, down from 1 to 0, and a retest with a low of 2 are a buy, unless the case at hand keeps it out
+THIRDS = [
+    steps([1, 0, 1, 0, 1], [(1, 0, 0), (1, 0, 0)], [2] * 5, {2: (1, 2, 2)}),            # 3: a repeated hit ends the scan too
+    steps([1, 0, 1, 0], [(1, 0, 0), (1, 0, 0)], [2] * 4),                               # 3: a bar hit by two zones is one row
+    steps([1, 0, 1, 0], [(1, 1, 1), (1, 0, 0)], [2] * 4),                               # 3: by a zone and an anchor: the zone's ground stays
+    steps([0, 1, 0, 1, 0], [(1, 2, 2)], [0, 0, 0, 0, 2]),                               # 3: by two anchors
+    steps([1, 0, 2, 1, 2, 0], [(1, 0, 2)], [0, 0, 0, 0, 0, 3]),                         # 3: by two zones: the first edge stays
+    steps([1, 0, 1, 0, 2], [(1, 2, 2)], [0, 0, 0, 3, 0]),                               # 3: by two anchors: the first C stays
+    steps([2, 3, 0, 1, 0], [(1, 1, 1), (0, 0, 0)], [0, 0, 0, 2, 0], {}, {3: (3, 3)}, 1.0),  # a bar may have a mark of each side
+    steps([1, 0, 1, 0, 1], [(1, 0, 0)], [2] * 5, {2: (1, 2, 2)}),                       # a zone has one mark
+    steps([0, 1, 0, 1, 0], [(1, 1, 1)], [2] * 5, {3: (0, 4, 3)}),                       # an anchor has one mark
+    steps([1, 0, 1, 0], [(1, 0, 2), (0, 0, 0)], [2, 0, 0, 0], {}, {2: (2, 0)}),         # 4: a pair that would be skipped stops the scan, at a reversal
+    steps([1, 0, 1, 0], [(1, 0, 2), (0, 0, 1)], [2, 0, 0, 0], {}, {2: (2, 0)}),         # 4: or at a zone
+    steps([1, 0, 1, 0], [(1, 0, 0)], [0, 0, 0, 2], {2: (1, 2, 2)}),                     # 4: the pair's second big may have any direction
+    steps([1, 0, 1, 0], [(1, 0, 0)], [0, 0, 0, 2]),                                     # 4: the scan runs past the superior's last, to the last big
+    steps([1, 0, 1, 0, 1, 0], [(1, 0, 0)], [0, 0, 0, 0, 0, 2], {2: (0, 3, 2)}),         # a missing range stops the scan
+    steps([0, 1, 0, 1, 0], [(1, 0, 0)], [2] * 5, {0: (0, 0, 0), 2: (1, 3, 2)}),         # 4: also that of a pair that would be skipped
+    steps([1, 0, 1, 0], [(1, 0, 0)], [0, 0, 0, 2], {1: (0, 2, 1)}),                     # a big of the other direction is skipped
+    steps([0, 1, 0], [(1, 0, 1)], [2] * 3, {0: (1, 1, 0)}),                             # 5: a missing range is not where the scan starts
+    steps([0, 1, 0, 1, 0], [(1, 0, 2)], [2] * 5, {0: (1, 1, 0)}),                       # 5: nor does it end the search for the start
+    steps([1, 0, 1, 0], [(1, 0, 1)], [2] * 4),                                          # the scan may start at the zone's end bar
+    steps([1, 0, 2, 0], [(1, 1, 2), (1, 0, 0)], [2] * 4),                               # 6: a zone of an earlier superior stops the scan
+    steps([1, 0, 1, 0, 1, 0], [(1, 0, 0), (1, 3, 4), (1, 1, 2)], [2] * 6),              # 6: the least start bar counts, not the first zone's
+    steps([1, 0, 2, 1], [(1, 0, 2)], [2] * 4),                                          # a zone of the same superior stops nothing
+    steps([1, 0, 1, 0], [(0, 0, 1), (1, 0, 0)], [2] * 4),                               # nor one that starts at the end bar
+    steps([1, 0, 1, 0, 1], [(0, 2, 3), (1, 0, 0)], [2] * 5),                            # a pair that ends where a zone starts is stopped
+    steps([1, 0, 1, 0, 1], [(1, 0, 0), (0, 0, 3), (0, 0, 1)], [0, 0, 0, 2, 0]),         # 6: the first reversal counts, not the least end bar
+    steps([1, 0, 1, 0, 1], [(1, 0, 0), (0, 0, 1), (0, 0, 3)], [2] * 5),                 # 6: nor the last
+    steps([1, 0, 1, 0], [(1, 0, 0), (1, 1, 1)], [2] * 4),                               # a superior of the same direction is no reversal
+    steps([1, 0, 1, 0], [(1, 0, 0), (0, 2, 1)], [2] * 4),                               # nor one with first > last
+    steps([1, 0, 1, 0], [(1, 0, 0), (0, 0, 0)], [2] * 4),                               # nor one that ends at the zone's end bar
+    steps([1, 0, 1, 0], [(1, 0, 0), (0, 0, 2)], [0, 0, 0, 2]),                          # a pair that ends where a reversal ends is stopped
+    steps([1, 0, 1, 0], [(1, 0, 0), (0, 0, 1)], [2] * 4, {1: (1, 2, 1)}),               # a reversal needs no range, only an end point
+    steps([1, 0, 2, 0, 1, 0], [(1, 0, 2)], [0, 0, 0, 0, 0, 2]),                         # the edge is zg and not gg
+    steps([1, 0, 1, 0], [(1, 0, 0)], [1] * 4),                                          # a low at zg is no hit
+    steps([0, 1, 0, 1], [(1, 1, 1)], [1] * 4),                                          # nor a low at C
+    steps([0, 1, 0, 1, 0], [(1, 0, 3)], [2, 2], {}, {3: (3, 0)}),                       # a bar outside the slice does not end a zone's scan
+    steps([0, 1, 0, 1, 0], [(1, 1, 2)], [2] * 5, {}, {1: (1, 5)}),                      # nor an anchor's
+    steps([1, 0, 1, 0], [(1, 1, 3)], [0, 0, 0, 2]),                                     # 7: anchors where superior 0 is skipped for zones
+    steps([0, 1, 0, 1], [(1, 1, 0)], [2] * 4),                                          # 7: where it has first > last
+    steps([0, 1, 0, 1], [(1, 3, 0)], [2] * 4),                                          # 7: where it starts behind the last big
+    steps([0, 1, 0, 1], [(1, 0, 0)], [2] * 4),                                          # the superior's first big is no anchor
+    steps([0, 1, 0, 1], [(1, 1, 1)], [2] * 4),                                          # 7: the retest ends before C's big; an anchor of any direction
+    steps([0, 1, 0, 1], [(1, 2, 2)], [2] * 4),                                          # each earlier big is an anchor
+    steps([1, 0, 1, 0], [(1, 1, 1)], [2] * 4, {0: (0, 1, 0)}),                          # an anchor needs no range
+    steps([0, 1, 0], [(1, 1, 1)], [2] * 3),                                             # a big that ends with the anchor does not end after it
+    steps([1, 0, 1, 0], [(1, 1, 1)], [0, 0, 0, 2], {}, {1: (1, 0)}),                    # 7: after is by bar and not by index
+    steps([0, 1, 0, 2, 0], [(1, 2, 2)], [0, 0, 0, 0, 2], {}, {0: (0, 4)}),              # 7: the first is by index and not by bar
+    steps([0, 1, 0, 1], [(1, 1, 1)], [2] * 4, {}, {0: (0, 0), 2: (2, 1)}),              # 7: the retest is before C's big by index
+    steps([1, 0, 1, 0], [(1, 1, 1)], [2] * 4, {}, {1: (1, 3)}),                         # 7: it ends with C's big
+    steps([1, 0, 1, 0], [(1, 1, 1)], [1] * 4),                                          # C is the end price
+]
+
+def many_thirds():
+    """509 third marks: 255 sells of zones and 254 buys of anchors"""
+    s = [(0, 255, i, 2.0, 1.0) for i in range(255)] + [(1, 0, 255, 5.0, 7.0)]
+    t = one_each(s)
+    return Chart(s, t, t, [(1, 256, 256)] + [(0, j, 255) for j in range(255)], [(4.0 - i, 8.0 + i) for i in range(256)])
+
+def full(superiors, seed=1, bars=0):
+    """512 strokes, 256 segments of two, 256 bigs of one, and this many bars"""
     r = random.Random(seed)
     price, pts = 100.0, [(0, 100.0)]
     for i in range(512):
         price += (r.randrange(50, 1050) / 100) * (1 if i % 2 == 0 else -1)
         pts.append((4 * i + 4, price))
     s = turns(pts)
-    return Chart(s, [(1 - i % 2, 2 * i, 2 * i + 1) for i in range(256)], [(1 - i % 2, i, i) for i in range(256)], superiors)
+    return Chart(s, [(1 - i % 2, 2 * i, 2 * i + 1) for i in range(256)], [(1 - i % 2, i, i) for i in range(256)], superiors, [(r.choice(pts)[1], r.choice(pts)[1]) for _ in range(bars)])
 
 SHAPES = {
     "one long": [(1, 0, 255)],
@@ -258,14 +333,72 @@ def wild(r):
         return (r.randrange(2), a, min(a + r.randrange(0, 3), max(n - 1, 0))) if r.random() < 0.9 else triple(n)
     return Chart([(r.randrange(2), bar(), bar(), price(), price()) for _ in range(n)], [near(n) for _ in range(m)], [near(m) for _ in range(k)], [triple(k) for _ in range(u)])
 
-def generated(seed, i, bars=False):
+def third_like(r):
+    """bigs of one stroke each under superiors that mostly leave some bigs before the first; at times bars in no order, a big turned, ranges or end
+    points missing, or a superior with odd indices"""
+    n, grid, up = r.randrange(3, 18), r.choice([3, 6, 20]), r.random() < 0.5
+    pts = [(0, 0)]
+    for i in range(n):
+        bar, price = pts[-1]
+        pts.append((bar + r.randrange(1, 4), price + r.randrange(1, grid + 1) * (1 if (i % 2 == 0) == up else -1)))
+    strokes = turns(pts, up)
+    if r.random() < 0.25:
+        bar = lambda old: old if r.random() < 0.6 else r.randrange(pts[-1][0] + 1)
+        strokes = [(d, bar(a), bar(e), s, q) for d, a, e, s, q in strokes]
+    segments, bigs = one_each(strokes), one_each(strokes)
+    turned, missing = r.choice([0, 0, 0.15]), r.choice([0, 0, 0.1, 0.2])
+    for k, (d, _, _) in enumerate(bigs):
+        d = 1 - d if r.random() < turned else d
+        bigs[k] = (d, k, k) if r.random() >= missing else r.choice([(d, k + 1, k), (d, k + 1, k), (d, k, n), (d, k, 65535)])
+        if r.random() < missing / 3:
+            segments[k] = (d, n, k)
+    return Chart(strokes, segments, bigs, superiors_over(r, n))
+
+def crowded(r):
+    """as many zones as there may be, about: a ladder under superiors that have all of it, or the last of them a part, and a leave with its retest"""
+    n, zones = r.randrange(4, 65), r.choice([255, 256, 257, 300])
+    s, _ = ladder(n)
+    top = s[-1][3]
+    s += [(1, 4 * n, 4 * n + 2, 0.0, top), (0, 4 * n + 2, 4 * n + 4, top, 0.0)]
+    t = one_each(s)
+    some = r.choice([0, 1]) if zones % n else 0
+    superiors = [(1, some, n - 1)] * (zones // n) + [(1, n - zones % n, n - 1)] * (zones % n > 0)
+    c = Chart(s, t, t, superiors)
+    return mirrored(c) if r.random() < 0.5 else c
+
+def superiors_over(r, n):
+    """superiors of n bigs, side by side or overlapping, of directions in turn or not; at times some anywhere behind them, and one with odd indices"""
+    out, i, d = [], r.choice([0, 0, 1, 1, 2, 3, 4]), r.randrange(2)
+    while i < n and len(out) < 7:
+        j = min(n - 1, i + r.choice([0, 1, 2, 2, 3, 4, 4, 6]))
+        out.append((d, i, j))
+        i = max(0, j + 1 - r.choice([0, 0, 0, 0, 1, 3]))
+        d = 1 - d if r.random() < 0.7 else d
+    out += [(r.randrange(2), r.randrange(n), r.randrange(n)) for _ in range(r.choice([0, 0, 0, 1, 3]))]
+    if out and r.random() < 0.25:
+        k = 0 if r.random() < 0.5 else r.randrange(len(out))
+        d, first, last = out[k]
+        out[k] = r.choice([(d, first, n), (d, first, 65535), (d, n, last), (d, 65535, last), (d, last + 1, last), (d, n, n)])
+    return out
+
+def lent(r, c):
+    """bars with prices at those of the strokes or near them; at times fewer than the strokes name, or more. Of a chart with more than 2,048 mostly few"""
+    n = max((s[2] + 1 for s in c.strokes), default=0)
+    how = r.random()
+    if how < 0.1 or n > 2048 and how < 0.9:
+        n = r.randrange(min(n, 60) + 1)
+    elif how < 0.15:
+        n += 3
+    prices = sorted(p for s in c.strokes for p in s[3:]) or [1.0]
+    off = r.choice([0, 0, 1])
+    near = lambda ps: r.choice(ps) + off * r.choice([-1, 0, 0, 1]) + 0.0
+    half = len(prices) // 2 if r.random() < 0.3 else 0
+    return [(near(prices[:len(prices) - half]), near(prices[half:])) for _ in range(min(n, 2048))]
+
+def generated(seed, i):
     r = random.Random(f"{seed} {i}")
-    c = r.choices([live_like, wild, first_like], [35, 35, 30])[0](r)
-    if bars:
-        last = max([s[2] for s in c.strokes], default=0)
-        n = min(last + 1, 2048) if r.random() < 0.95 else r.randrange(0, min(last + 1, 2048) + 1)
-        prices = [p for s in c.strokes for p in s[3:]] or [1.0]
-        c.bars = [(r.choice(prices), r.choice(prices)) for _ in range(n)]
+    c = r.choices([live_like, wild, first_like, third_like, crowded], [25, 25, 25, 24, 1])[0](r)
+    c.bars = lent(r, c)
     return c
 
 def special():
@@ -273,7 +406,9 @@ def special():
     missing.bigs[1], missing.bigs[3], missing.segments[5] = (0, 2, 1), (0, 3, 9), (0, 5, 99)
     overlapping = simple(K_TURNS, [(1, 0, 7), (1, 2, 6), (0, 1, 7), (1, 0, 7)])
     odd = simple(K_TURNS, [(1, 65535, 4), (1, 0, 65535), (1, 65535, 65535), (0, 5, 2), (1, 0, 8), (1, 1, 1)])
-    return [Chart(), chart_k(), touching(), three_members(), of_one(1), of_one(255), of_one(256), too_many(), far_too_many(), overlapping, missing, odd, named(256)] + [full(s) for s in SHAPES.values()] + for_classes()
+    short = chart_k()
+    short.bars = short.bars[:29]
+    return [Chart(), chart_k(), chart_k(20.0), short, touching(), three_members(), of_one(1), of_one(255), of_one(256), too_many(), far_too_many(), overlapping, missing, odd, named(256)] + [full(s, bars=1024 * (name == "short")) for name, s in SHAPES.items()] + for_classes() + THIRDS + [mirrored(c) for c in THIRDS] + [many_thirds()]
 
 def for_classes():
     """first marks of each side, in and out of order and at one bar; the borders of each comparison; 1, 2 and 6 items (6: P5); one or two, the last of
@@ -308,15 +443,17 @@ def damaged(r, data):
     return bytes(data)
 
 def small_file():
-    """a record of each kind"""
-    return Chart([(1, 0, 1, 1.0, 2.0)], [(1, 0, 0)], [(0, 0, 0)], [(1, 0, 0)], [(2.0, 1.0)]).pack()
+    """a record of each kind at least, with a zone and a third mark"""
+    s = [(1, 0, 1, 1.0, 2.0), (0, 1, 0, 2.0, 1.0)]
+    return Chart(s, one_each(s), one_each(s), [(1, 0, 1)], [(4.0, 3.0)]).pack()
 
 def each_byte(data):
     """every truncation and every change of one byte"""
     return [data[:n] for n in range(len(data) + 1)] + [data[:i] + bytes([b]) + data[i + 1:] for i in range(len(data)) for b in range(256) if b != data[i]]
 
 WIDTHS = {b"ST": 23, b"SG": 7, b"BG": 7, b"SU": 7, b"BR": 18}
-ABOVE = {b"ST": b"SG", b"SG": b"BG", b"BG": b"SU"}
+# the kind whose records name those of a kind, by two numbers behind the direction
+NAMING = {b"BR": b"ST", b"ST": b"SG", b"SG": b"BG", b"BG": b"SU"}
 
 def records(data):
     """a file cut into its records; what is behind the last good one is the last part"""
@@ -327,12 +464,25 @@ def records(data):
         data = data[n:]
     return out
 
+def unpacked(data):
+    """the chart in a file that is not refused"""
+    c = Chart()
+    levels = {b"SG": c.segments, b"BG": c.bigs, b"SU": c.superiors}
+    for p in records(data):
+        if p[:2] == b"BR":
+            c.bars.append(struct.unpack("<dd", p[2:]))
+        elif p[:2] == b"ST":
+            c.strokes.append(struct.unpack("<BHHdd", p[2:]))
+        else:
+            levels[p[:2]].append(struct.unpack("<BHH", p[2:]))
+    return c
+
 def without(parts, k):
-    """records without the one at k; indices in the level above that are behind it are one lower"""
+    """records without the one at k; numbers that name one behind it are one lower"""
     mark = parts[k][:2]
     place = sum(p[:2] == mark for p in parts[:k])
     def lowered(p):
-        if len(p) != 7 or p[:2] != ABOVE.get(mark):
+        if p[:2] != NAMING.get(mark) or len(p) != WIDTHS[p[:2]]:
             return p
-        return p[:3] + struct.pack("<HH", *(i - (i > place) for i in struct.unpack("<HH", p[3:])))
+        return p[:3] + struct.pack("<HH", *(i - (i > place) for i in struct.unpack("<HH", p[3:7]))) + p[7:]
     return [lowered(p) for i, p in enumerate(parts) if i != k]

@@ -1,8 +1,9 @@
-// Prints what the reference Rust gives for charts. Reading, the refusals and a zone's members, which the reference lacks, are written here
-// from document 01 alone.
+// Prints what the reference Rust gives for charts. Reading, the refusals, a zone's members and a third mark's ground, which the reference
+// lacks, are written here from document 01 alone. Of a third mark side, bar, price and place among the rows are the reference's; the ground is
+// that of `thirds`, 01's rule over the reference's zones, and its rows must be the reference's, or this program panics.
 //   oracle one SECTION..   a chart file on standard input
 //   oracle many SECTION..  many: each a length (u32, little-endian) and that many bytes; a line `CHART i` before each
-// Sections: zones labels third threen classes firsts. Third marks have no ground: the reference names none.
+// Sections: zones third threen labels classes firsts
 use chanlun::{zhongshu as z, Stroke};
 use std::io::{Read, Write};
 
@@ -50,13 +51,23 @@ fn read(b: &[u8], places: usize) -> Result<Chart, (usize, usize)> {
     Ok(c)
 }
 
-// low, high of a big, where its range is not missing
-fn range(c: &Chart, k: usize) -> Option<(f64, f64)> {
+struct Range { low: f64, high: f64, start_bar: usize, end_bar: usize }
+
+// of a big, where it is not missing
+fn range(c: &Chart, k: usize) -> Option<Range> {
     let (f, l, _) = c.bigs[k];
     if f > l || l >= c.segments.len() { return None; }
-    let s = c.strokes.get(c.segments[f].0)?.start_price;
-    let e = c.strokes.get(c.segments[l].1)?.end_price;
-    Some(if s <= e { (s, e) } else { (e, s) })
+    let s = c.strokes.get(c.segments[f].0)?;
+    let e = c.strokes.get(c.segments[l].1)?;
+    let (a, b) = (s.start_price, e.end_price);
+    let (low, high) = if a <= b { (a, b) } else { (b, a) };
+    Some(Range { low, high, start_bar: s.start_bar, end_bar: e.end_bar })
+}
+
+// end bar and end price of a big, range missing or not
+fn end_point(c: &Chart, k: usize) -> Option<(usize, f64)> {
+    let s = c.strokes.get(c.segments.get(c.bigs.get(k)?.1)?.1)?;
+    Some((s.end_bar, s.end_price))
 }
 
 // first member and member count of each zone, by 01's rule
@@ -67,7 +78,7 @@ fn members(c: &Chart) -> Vec<(usize, usize)> {
         let mut run: Vec<(usize, f64, f64)> = vec![];
         for k in first..=last {
             if c.bigs[k].2 == up { continue; }
-            let Some((low, high)) = range(c, k) else { continue };
+            let Some(Range { low, high, .. }) = range(c, k) else { continue };
             let joins = match run.len() {
                 0 => true,
                 1 => f64::max(run[0].1, low) < f64::min(run[0].2, high),
@@ -77,6 +88,57 @@ fn members(c: &Chart) -> Vec<(usize, usize)> {
             run.push((k, low, high));
         }
         if !run.is_empty() { out.push((run[0].0, run.len())); }
+    }
+    out
+}
+
+// ---- third marks with their grounds
+
+enum Ground { Zone(f64), Anchor(f64) }
+struct Third { buy: bool, bar: usize, price: f64, ground: Ground }
+
+// the lent price of a side at a bar, where that is a hit: beyond p, and inside the slice
+fn hit(c: &Chart, buy: bool, p: f64, bar: usize) -> Option<f64> {
+    let x = *if buy { &c.lows } else { &c.highs }.get(bar)?;
+    (if buy { x > p } else { x < p }).then_some(x)
+}
+
+// bar and price of a zone's first hit
+fn zone_hit(c: &Chart, zones: &[z::BigSegmentZhongShu], zone: &z::BigSegmentZhongShu, edge: f64) -> Option<(usize, f64)> {
+    let (first, last, up) = c.superiors[zone.sup_idx];
+    let start = (first..=last).find(|&k| range(c, k).map_or(false, |r| r.start_bar >= zone.end_bar)).unwrap_or(last + 1);
+    let others = zones.iter().filter(|y| y.sup_idx != zone.sup_idx && y.start_bar > zone.end_bar);
+    let next_zone = others.map(|y| y.start_bar).min();
+    let opposite = c.superiors[zone.sup_idx + 1..].iter().filter(|s| s.2 != up && s.0 <= s.1);
+    let reversal = opposite.filter_map(|s| end_point(c, s.1)).map(|e| e.0).find(|&bar| bar > zone.end_bar);
+    for k in start..c.bigs.len() - 1 {
+        let r = range(c, k + 1)?;
+        if next_zone.map_or(false, |bar| r.end_bar >= bar) || reversal.map_or(false, |bar| r.end_bar >= bar) { return None; }
+        if c.bigs[k].2 != up { continue; }
+        if let Some(price) = hit(c, up, edge, r.end_bar) { return Some((r.end_bar, price)); }
+    }
+    None
+}
+
+// C of an anchor that ends at a bar, and bar and price of its hit
+fn anchor_hit(c: &Chart, up: bool, bar: usize) -> Option<(f64, usize, f64)> {
+    let ending_after = |d: bool| (0..c.bigs.len()).filter(move |&k| c.bigs[k].2 == d).filter_map(|k| end_point(c, k)).filter(move |e| e.0 > bar);
+    let (_, p) = ending_after(up).next()?;
+    ending_after(!up).find_map(|e| Some((p, e.0, hit(c, up, p, e.0)?)))
+}
+
+fn thirds(c: &Chart, zones: &[z::BigSegmentZhongShu]) -> Vec<Third> {
+    let mut out: Vec<Third> = vec![];
+    let mut add = |m: Third| if !out.iter().any(|x| x.bar == m.bar && x.buy == m.buy) { out.push(m) };
+    for zone in zones {
+        let buy = c.superiors[zone.sup_idx].2;
+        let edge = if buy { zone.zg } else { zone.zd };
+        if let Some((bar, price)) = zone_hit(c, zones, zone, edge) { add(Third { buy, bar, price, ground: Ground::Zone(edge) }); }
+    }
+    if let Some(&(first, _, buy)) = c.superiors.first() {
+        for (at, _) in (0..first).filter_map(|k| end_point(c, k)) {
+            if let Some((p, bar, price)) = anchor_hit(c, buy, at) { add(Third { buy, bar, price, ground: Ground::Anchor(p) }); }
+        }
     }
     out
 }
@@ -157,8 +219,14 @@ fn report(bytes: &[u8], sections: &[String], out: &mut String) {
             "third" | "threen" if zones.len() > 256 => *out += &format!("{} refused 11\n", s.to_uppercase()),
             "third" => {
                 let ms = z::bigseg_third_marks_all_zhongshu(&c.superiors, &c.bigs, &c.segments, &c.strokes, &c.highs, &c.lows);
+                let ours = thirds(&c, &zones);
+                let same = |(m, t): (&z::BigSegThirdMarker, &Third)| (m.is_buy, m.bar_index, m.price.to_bits()) == (t.buy, t.bar, t.price.to_bits());
+                assert!(ms.len() == ours.len() && ms.iter().zip(&ours).all(same), "third marks other than the reference's");
                 *out += &format!("THIRD {}\n", ms.len());
-                for m in ms { *out += &format!("{} {} {}\n", side(m.is_buy), m.bar_index, hex(m.price)); }
+                for (m, t) in ms.iter().zip(&ours) {
+                    let (what, ground) = match t.ground { Ground::Zone(p) => ("zone", p), Ground::Anchor(p) => ("anchor", p) };
+                    *out += &format!("{} {} {} {what} {}\n", side(m.is_buy), m.bar_index, hex(m.price), hex(ground));
+                }
             }
             "threen" if c.strokes.iter().any(|s| s.end_bar >= c.highs.len()) => *out += "THREEN refused 9\n",
             "threen" => {

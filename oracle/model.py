@@ -1,11 +1,15 @@
 """A model of document 01, independent of the definitions, with a switch for each reading that is rejected (SW holds those that are on): where a
 switch changes an answer, the chart tells the two readings apart. The facts of crates/rules/proofs/Readings.antt and Borders.antt were found so.
 A chart: strokes (d, start bar, end bar, start price, end price), segs, bigs, sups (d, first, last), highs, lows."""
+import inspect, re
 from collections import namedtuple
 Chart = namedtuple('Chart', 'strokes segs bigs sups highs lows')
 Zone = namedtuple('Zone', 'sup start end zd zg dd gg first members')
 SW = set()
 def on(s): return s in SW
+def of(c):
+    """the model's chart of one of charts.py"""
+    return Chart(c.strokes, c.segments, c.bigs, c.superiors, [h for h, l in c.bars], [l for h, l in c.bars])
 
 def get(l, i): return l[i] if 0 <= i < len(l) else None
 
@@ -89,14 +93,14 @@ def scan(c, zs, z):
         if s[0] == h[0] and not on('reversal-any-direction'): continue
         if s[1] > s[2] and not on('reversal-any-order'): continue
         e = end_point(c, s[2])
-        if e is None: continue
+        if e is None or on('reversal-needs-range') and rng(c, c.bigs[s[2]]) is None: continue
         if e[2] > z.end or (on('reversal-from-end') and e[2] >= z.end): ends.append(e[2])
     stop2 = None
     if ends: stop2 = min(ends) if on('r6-least-end') else ends[0]
     if on('no-reversal'): stop2 = None
     if on('r6-last-end') and ends: stop2 = ends[-1]
     out = []
-    while k + 1 < len(c.bigs):
+    while k + 1 < len(c.bigs) - on('last-pair-left-out'):
         if on('r4-not-past-last') and k > h[2]: break
         skip = c.bigs[k][0] != h[0]
         if on('no-skip'): skip = False
@@ -113,7 +117,11 @@ def scan(c, zs, z):
         k += 1
     return out
 
-def price_at(c, buy, bar): return (c.lows if buy else c.highs)[bar]
+def price_at(c, buy, bar): return (c.lows if buy != on('price-other-side') else c.highs)[bar]
+def inside(c, bars):
+    """the bars up to the first outside the slices, where that one ends a scan"""
+    if not on('outside-ends'): return bars
+    return bars[:next((i for i, b in enumerate(bars) if b >= len(c.lows)), len(bars))]
 def beats(c, buy, p, bar):
     x = get(c.lows if buy else c.highs, bar)
     if x is None: return False
@@ -127,7 +135,7 @@ def anchors(c):
     if on('r7-none-if-skipped') and s[2] >= len(c.bigs): return []
     if on('r7-none-if-turned') and s[1] > s[2]: return []
     if on('r7-none-if-behind') and s[1] >= len(c.bigs): return []
-    idx = range(0, min(s[1], len(c.bigs)))
+    idx = range(0, min(s[1] + on('anchor-first-too'), len(c.bigs)))
     if on('anchor-opposite-only'): idx = [i for i in idx if c.bigs[i][0] != s[0]]
     if on('anchor-last-only'): idx = list(idx)[-1:]
     out = []
@@ -141,6 +149,8 @@ def ends_after(c, up, i, bar):
     out = []
     for j, b in enumerate(c.bigs):
         if (b[0] == 1) != up: continue
+        if on('r7-earlier-bigs') and j >= c.sups[0][1]: continue
+        if on('r7-later-bigs') and j < c.sups[0][1]: continue
         if on('r7-after-by-index') :
             if j <= i: continue
         e = last_stroke(c, b)
@@ -165,6 +175,8 @@ def third(c, with_anchors=True):
     def add(m):
         for i, x in enumerate(out):
             if x[1] == m[1] and (x[0] == m[0] or on('repeat-bar-only')):
+                kept = {('zone', 'zone'): on('r3-keep-zone-zone'), ('zone', 'anchor'): on('r3-keep-zone-anchor'), ('anchor', 'anchor'): on('r3-keep-anchor-anchor')}
+                if kept[x[3], m[3]]: continue
                 if on('r3-later-ground'): out[i] = m
                 return False
         out.append(m); return True
@@ -172,7 +184,8 @@ def third(c, with_anchors=True):
         buy = c.sups[z.sup][0] == 1
         edge = z.zg if buy else z.zd
         if on('edge-swapped'): edge = z.zd if buy else z.zg
-        for bar in scan(c, zs, z):
+        if on('edge-outer'): edge = z.gg if buy else z.dd
+        for bar in inside(c, scan(c, zs, z)):
             if beats(c, buy, edge, bar):
                 new = add((buy, bar, price_at(c, buy, bar), 'zone', edge))
                 if on('r3-repeat-goes-on') and not new: continue
@@ -184,13 +197,18 @@ def third(c, with_anchors=True):
         C = anchor_c(c, buy, a)
         if C is None: continue
         p = C[1][3] if on('anchor-c-start') else C[1][4]
-        for bar in anchor_bars(c, buy, a, C):
+        for bar in inside(c, anchor_bars(c, buy, a, C)):
             if beats(c, buy, p, bar):
                 m = (buy, bar, price_at(c, buy, bar), 'anchor', p)
                 if on('r3-anchors-repeat'): out.append(m)
                 else: add(m)
                 if not on('third-all-hits'): break
     return out
+
+def third_switches():
+    """the switches that third marks ask for, but those of the zones"""
+    asked = ''.join(map(inspect.getsource, (rng, scan, price_at, inside, beats, anchors, ends_after, anchor_c, anchor_bars, third)))
+    return list(dict.fromkeys(re.findall(r"on\('([^']+)'\)", asked)))
 
 # ---- 3+N: (buy, order, bar, price)
 def push(out, buy, bar, price, order):
@@ -420,11 +438,11 @@ def report(c):
     zs = zones(c)
     many = len(zs) > 256
     o = ['ZONES refused 11'] if many else section('ZONES', [f'{z.sup} {z.start} {z.end} {hx(z.zd)} {hx(z.zg)} {hx(z.dd)} {hx(z.gg)} {z.first} {z.members}' for z in zs])
-    o += ['LABELS refused 11'] if many else section('LABELS', labels(c))
-    o += ['THIRD refused 11'] if many else section('THIRD', [f'{side(m[0])} {m[1]} {hx(m[2])}' for m in third(c)])
+    o += ['THIRD refused 11'] if many else section('THIRD', [f'{side(m[0])} {m[1]} {hx(m[2])} {m[3]} {hx(m[4])}' for m in third(c)])
     if many: o += ['THREEN refused 11']
     elif any(s[2] >= len(c.highs) for s in c.strokes): o += ['THREEN refused 9']
     else: o += section('THREEN', [f'{side(m[0])} {m[1]} {m[2]} {hx(m[3])}' for m in n3(c)])
+    o += ['LABELS refused 11'] if many else section('LABELS', labels(c))
     for head, items in (('seg', seg_items), ('big', big_items)):
         for b in (0, 1): o += tried(f'CLASSES {head} case3={b}', lambda: class_rows(b, items(c)))
     for head, buy in (('FIRSTBUY', True), ('FIRSTSELL', False)):

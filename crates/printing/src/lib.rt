@@ -1,7 +1,9 @@
 // The rows of `report`, written to standard output. Of printing only safety is proved.
 use chart::Class;
 use chart::FirstMark;
+use chart::Ground;
 use chart::Label;
+use chart::ThirdMark;
 use chart::Zone;
 ghost use Prim.Native.Nat.{_≤_};
 
@@ -75,13 +77,11 @@ pub fn print_case3_head(name: &[u8], case3: u8, number: u8, count: u16) {
 }
 
 // How many rows are printed: as many as there are, and no more than an array has.
-fn shown(count: u16) -> usize
-    ensures { λ r. ⌜ r ≤ 256 ⌝ }
+fn shown(count: u16, size: usize) -> usize
+    ensures { λ r. ⌜ r ≤ size ⌝ }
 {
-    if count < 256 {
-        return count as usize;
-    }
-    256
+    let n = count as usize;
+    if n < size { n } else { size }
 }
 
 // A row of the section ZONES.
@@ -99,8 +99,42 @@ fn print_zone(z: Zone) {
 }
 
 pub fn print_zones(rows: [Zone; 256], count: u16) {
-    for i in 0..shown(count) {
+    for i in 0..shown(count, 256) {
         print_zone(rows[i]);
+    }
+}
+
+// What a third mark beat.
+fn print_ground(ground: Ground) {
+    match ground {
+        Ground::Zone(edge) => {
+            io::write_all(1, b"zone ");
+            io::write_all(1, &hex_of(edge));
+        }
+        Ground::Anchor(price) => {
+            io::write_all(1, b"anchor ");
+            io::write_all(1, &hex_of(price));
+        }
+    }
+    io::write_all(1, b"\n");
+}
+
+// A row of the section THIRD.
+fn print_third(m: ThirdMark) {
+    if m.is_buy {
+        io::write_all(1, b"buy ");
+    } else {
+        io::write_all(1, b"sell ");
+    }
+    print_number(m.bar_index);
+    print_price(m.price);
+    let ground = m.ground;
+    print_ground(ground);
+}
+
+pub fn print_thirds(rows: [ThirdMark; 512], count: u16) {
+    for i in 0..shown(count, 512) {
+        print_third(rows[i]);
     }
 }
 
@@ -118,7 +152,7 @@ fn print_label(l: Label) {
 }
 
 pub fn print_labels(rows: [Label; 256], count: u16) {
-    for i in 0..shown(count) {
+    for i in 0..shown(count, 256) {
         print_label(rows[i]);
     }
 }
@@ -135,7 +169,7 @@ fn print_class(k: Class) {
 }
 
 pub fn print_classes(rows: [Class; 256], count: u16) {
-    for i in 0..shown(count) {
+    for i in 0..shown(count, 256) {
         print_class(rows[i]);
     }
 }
@@ -148,7 +182,7 @@ fn print_first(m: FirstMark) {
 }
 
 pub fn print_firsts(rows: [FirstMark; 256], count: u16) {
-    for i in 0..shown(count) {
+    for i in 0..shown(count, 256) {
         print_first(rows[i]);
     }
 }

@@ -3,12 +3,21 @@
 use chart::Chart;
 use classes::ClassRows;
 use first_marks::FirstRows;
+ghost use Prim.Native.Nat.{_≤_};
 
 fn print_zones(chart: Chart) {
     let found = zones::detect_bigseg_zhongshus_by_overlap(chart);
     printing::print_head(b"ZONES", found.number, found.count);
     let rows = found.rows;
     printing::print_zones(rows, found.count);
+}
+
+// Third marks, over the bars of the file.
+fn print_thirds(chart: Chart, highs: &[f64], lows: &[f64]) {
+    let found = third::bigseg_third_marks_all_zhongshu(chart, highs, lows);
+    printing::print_head(b"THIRD", found.number, found.count);
+    let rows = found.rows;
+    printing::print_thirds(rows, found.count);
 }
 
 fn print_labels(chart: Chart) {
@@ -64,17 +73,10 @@ fn print_first_sells(chart: Chart, case3: u8) {
     );
 }
 
-// All sections, or `refused N at P` alone. A file has at most 2,048 bars.
-pub fn print_report(file: &[u8]) {
-    let mut highs = [0.0; 2048];
-    let mut lows = [0.0; 2048];
-    let read = chart_read::read_chart(file, &mut highs, &mut lows);
-    if read.number != 0 {
-        printing::print_refused(read.number, read.place);
-        return;
-    }
-    let chart = read.chart;
+// All sections of a chart and its bars.
+fn print_sections(chart: Chart, highs: &[f64], lows: &[f64]) {
     print_zones(chart);
+    print_thirds(chart, highs, lows);
     print_labels(chart);
     print_segment_classes(chart, 0);
     print_segment_classes(chart, 1);
@@ -84,4 +86,25 @@ pub fn print_report(file: &[u8]) {
     print_first_buys(chart, 1);
     print_first_sells(chart, 0);
     print_first_sells(chart, 1);
+}
+
+// The places that a file's bars fill: as many as there are bars, and no more than an array has.
+fn filled(bars: usize) -> usize
+    ensures { λ r. ⌜ r ≤ 2048 ⌝ }
+{
+    if bars < 2048 { bars } else { 2048 }
+}
+
+// All sections, or `refused N at P` alone. A file has at most 2,048 bars.
+pub fn print_report(file: &[u8]) {
+    let mut highs = [0.0; 2048];
+    let mut lows = [0.0; 2048];
+    let read = chart_read::read_chart(file, &mut highs, &mut lows);
+    if read.number != 0 {
+        printing::print_refused(read.number, read.place);
+        return;
+    }
+    let n = filled(read.bars);
+    let chart = read.chart;
+    print_sections(chart, &highs[..n], &lows[..n]);
 }
