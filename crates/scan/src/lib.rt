@@ -30,7 +30,7 @@ fn at_most(n: usize, m: usize) -> usize
 
 // The place of the first big from `first` to `last` that starts at bar e or later, and one past the last where there is none; m where
 // that is behind all m bigs. A big whose range is missing has no start bar.
-pub fn start_of(starts: &[u32], m: usize, first: usize, last: usize, e: u32) -> usize
+fn start_of(starts: &[u32], m: usize, first: usize, last: usize, e: u32) -> usize
     requires { ⌜ (m ≤ length (now starts)) × (m ≤ 256) × (last < 65536) ⌝ }
     ensures { λ r. ⌜ r ≤ m ⌝ }
     ensures { λ r. ⌜ ((c : Levels) → Column startOf m (now (starts .entry)) (map (rangeOf c) (c .bigs)) → leaving c e (suc last - first) (drop first (c .bigs)) ≡ drop r (c .bigs)) ⌝ }
@@ -66,7 +66,7 @@ fn nearer(a: u32, b: u32) -> u32
 
 // The least start bar of a zone of another superior than h that starts behind bar e. Every zone is looked at, with no test that ends the
 // loop, so that many can be taken at once.
-pub fn next_zone(owners: &[u16], starts: &[u16], n: usize, h: u16, e: u16) -> u32
+fn next_zone(owners: &[u16], starts: &[u16], n: usize, h: u16, e: u16) -> u32
     requires { ⌜ (n ≤ length (now owners)) × (n ≤ length (now starts)) ⌝ }
     ensures { λ r. ⌜ ((zs : List Zone) (z : Zone) → Column (λ (y : Zone). y .«sup_idx») n (now (owners .entry)) zs → Column (λ (y : Zone). y .«start_bar») n (now (starts .entry)) zs → z .«sup_idx» ≡ h → z .«end_bar» ≡ e → (bar : ℕ) → reached r bar ≡ reachesZone zs z bar) ⌝ }
 {
@@ -88,7 +88,7 @@ fn turns(d: u8, after: u32, way: u8, end: u32) -> bool
 }
 
 // The first end bar behind e among the superiors from place `from` on that are not of direction d.
-pub fn reversal(ways: &[u8], ends: &[u32], n: usize, from: usize, d: u8, e: u16) -> u32
+fn reversal(ways: &[u8], ends: &[u32], n: usize, from: usize, d: u8, e: u16) -> u32
     requires { ⌜ (n ≤ length (now ways)) × (n ≤ length (now ends)) ⌝ }
     ensures { λ r. ⌜ ((c : Levels) → Column (λ (t : Triple). t .direction) n (now (ways .entry)) (c .superiors) → Column (λ (t : Triple). barOf (superiorEnd c t)) n (now (ends .entry)) (c .superiors) → r ≡ barOf (reversalIn c d e (drop from (c .superiors)))) ⌝ }
 {
@@ -104,7 +104,7 @@ pub fn reversal(ways: &[u8], ends: &[u32], n: usize, from: usize, d: u8, e: u16)
 }
 
 // The nearer of two limits, each of which may be none.
-pub fn limit_of(a: u32, b: u32) -> u32
+fn limit_of(a: u32, b: u32) -> u32
     ensures { λ r. ⌜ ((bar : ℕ) → reached r bar ≡ (reached a bar || reached b bar)) ⌝ }
 {
     if a == 0 {
