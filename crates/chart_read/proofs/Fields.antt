@@ -1,17 +1,16 @@
 -- The fields of a record as the code reads them, and the record's refusal by the tests. Assumes nothing.
-use Prim.Native.Nat.{ℕ, suc, _+_, _*_, _≤_}
+use Prim.Native.Nat.{ℕ}
 use native.Mathlib.Omega.{arith}
 use mathlib.Core.Path.{_≡_, refl, sym, ap, _∙_}
 use mathlib.Core.Bool.{Bool, true, false, cond, _&&_}
 use mathlib.Core.List.{List, [], _∷_}
 use mathlib.Core.Option.{none, some}
-use lib.ListN.{length, getD}
-use lib.Seq.{drop-cons}
+use lib.ListN.{getD}
 use lib.Dec.{eqb}
 use lib.Ieee.{Float}
 use borrow.Author.Tests.{ne-eqb}
 use Rattle.price.specs.Price.{isPrice}
-use Rattle.price.specs.Bytes.{ofBytes, readBits}
+use Rattle.price.specs.Bytes.{readBits}
 use Rattle.price.specs.declared.PriceRead.{PriceRead}
 use Rattle.price.specs.declared.PriceRead.the-variants.{Price, NotPrice}
 use Rattle.chart.specs.declared.Stroke.{Stroke}
@@ -23,6 +22,7 @@ use Rattle.rules.specs.Lists.{find}
 use Rattle.rules.specs.File.{Kind, ST, SG, BG, SU, BR, markOf, width, isMark, kindOf, stroke, bar, number, price, strokeIn, tripleIn, recordIn, fieldRefusal}
 use Rattle.laws.proofs.Lists.{All}
 use Rattle.laws.proofs.FileBytes.{Byte, price-read}
+use Rattle.laws.proofs.FileCode.{strokeOf, stroke-read}
 use Rattle.chart_read.specs.declared.Level.{Level}
 use Rattle.chart_read.specs.declared.Mark.{Mark}
 use Rattle.chart_read.specs.Heads.{levelKind, kindBy, tripleBy, checked}
@@ -107,14 +107,6 @@ level-width m l e = go l ∙ ap (λ (k : Mark). width (kindBy k)) (sym e)
 -- ---- numbers and prices
 
 module _ (s : List ℕ) where
-  pub one-at : (i : ℕ) → suc i ≤ length s → number i 1 s ≡ getD s i 0
-  unfolding number ofBytes
-  one-at i h = rw (drop-cons s i 0 h) (omega arith)
-
-  pub two-at : (i : ℕ) → suc (suc i) ≤ length s → number i 2 s ≡ getD s i 0 + 256 * getD s (suc i) 0
-  unfolding number ofBytes
-  two-at i h = let j : suc i ≤ length s = omega arith in rw (drop-cons s i 0 j, drop-cons s (suc i) 0 h) (omega arith)
-
   price-some : (b : Bool) (x y : Float) → cond b (Price x) NotPrice ≡ Price y → (b ≡ true) × (x ≡ y)
   price-some true x y e = (refl, cc)
   price-some false x y e = let z : _≡_ {A = ℕ} 0 1 = cc in absurd (omega arith)
@@ -131,17 +123,6 @@ module _ (s : List ℕ) where
     no-price e = price-none (isPrice (price i s)) (price i s) (sym (price-read i s all) ∙ sym called ∙ e)
 
 -- ---- the records, by the tests on their fields
-
--- the numbers that are read
-pub triple-read :
-    (s : List ℕ) (a b : ℕ) → 5 ≤ length s → a ≡ getD s 1 0 + 256 * getD s 2 0 → b ≡ getD s 3 0 + 256 * getD s 4 0
-    → record { direction = getD s 0 0; first = a; last = b } ≡ tripleIn s
-unfolding tripleIn
-triple-read s a b h e f = rw (one-at s 0 (omega arith), two-at s 1 (omega arith), two-at s 3 h, e, f)
-
--- the stroke that begins so
-abbrev pub strokeOf : Triple → Float → Float → Stroke
-strokeOf t x y = record { direction = t .direction; «start_bar» = t .first; «end_bar» = t .last; «start_price» = x; «end_price» = y }
 
 module _ (s : List ℕ) (t : Triple) (e : t ≡ tripleIn s) (wrong : Bool) (called : wrong ≡ aboveOne (t .direction)) where
   above : (b : Bool) → wrong ≡ b → aboveOne (number 0 1 s) ≡ b
@@ -160,15 +141,11 @@ module _ (s : List ℕ) (t : Triple) (e : t ≡ tripleIn s) (wrong : Bool) (call
   unfolding checked recordIn strokeIn fieldRefusal badPrices refuse answered
   stroke-end h p q = rw (above false h, p, q)
 
-  stroke-same : (x y : Float) → price 5 s ≡ x → price 13 s ≡ y → strokeOf t x y ≡ strokeIn s
-  unfolding strokeIn tripleIn
-  stroke-same x y p q = ap (λ (k : Triple). strokeOf k x y) e ∙ rw (p, q)
-
   pub stroke-given :
       (x y : Float) → wrong ≡ false → (isPrice (price 5 s) ≡ true) × (price 5 s ≡ x) → (isPrice (price 13 s) ≡ true) × (price 13 s ≡ y)
       → given (stroke (strokeOf t x y)) ≡ checked ST s
   unfolding checked recordIn strokeIn fieldRefusal badPrices refuse answered
-  stroke-given x y h p q = ap (λ (k : Stroke). given (stroke k)) (stroke-same x y (p .1) (q .1)) ∙ rw (above false h, p .0, q .0)
+  stroke-given x y h p q = ap (λ (k : Stroke). given (stroke k)) (stroke-read s t e x y (p .1) (q .1)) ∙ rw (above false h, p .0, q .0)
 
   pub triple-direction : (l : Level) → wrong ≡ true → refused 2 ≡ checked (levelKind l) s
   unfolding checked recordIn tripleIn fieldRefusal refuse answered

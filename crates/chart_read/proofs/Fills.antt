@@ -43,13 +43,12 @@ use Rattle.rules.specs.File.{
 }
 use Rattle.laws.proofs.Tests.{length-snoc}
 use Rattle.laws.proofs.FileSteps.{refused-given, readBehind, read-two, accepted, at-end, at-refused, at-given}
-use Rattle.laws.proofs.FileCode.{fill-one}
+use Rattle.laws.proofs.FileCode.{fill-one, part}
 use Rattle.chart_read.specs.declared.Counts.{Counts}
 use Rattle.chart_read.specs.declared.Head.{Head}
 use Rattle.chart_read.specs.declared.Level.{Level}
 use Rattle.chart_read.specs.Heads.{tripleBy, answerOf, fullBy, isGiven}
 use Rattle.chart_read.specs.declared.Level.the-variants as level
-use Rattle.chart_read.proofs.Heads.{part}
 use Rattle.chart_read.proofs.Scans.{same-full}
 
 -- ---- a record that is read is read without the test for room too

@@ -6,7 +6,6 @@ use mathlib.Core.Bool.{Bool, true, false}
 use mathlib.Core.List.{List, [], _∷_}
 use mathlib.Core.Option.{some}
 use lib.ListN.{length, getD, take, drop, length-drop}
-use lib.Seq.{take-all}
 use lib.Dec.{ltb}
 use borrow.Author.Tests.{le-ltb, ltb-true, ltb-false}
 use Rattle.price.specs.Bytes.{ofBytes, readBits}
@@ -14,14 +13,11 @@ use Rattle.rules.specs.Refusals.{refuse}
 use Rattle.rules.specs.Answer.{Answer, refused}
 use Rattle.rules.specs.File.{Kind, width, kindOf, number, Record, readRecord}
 use Rattle.laws.proofs.FileSteps.{readBehind, record-at, behind-cut, behind-full}
+use Rattle.laws.proofs.FileCode.{part}
 use Rattle.chart_read.specs.declared.Mark.{Mark}
 use Rattle.chart_read.specs.declared.MarkRead.{MarkRead}
 use Rattle.chart_read.specs.Heads.{kindBy, markedBy, checked}
 use Rattle.chart_read.specs.declared.MarkRead.the-variants as read
-
--- the part of a slice from a place on
-pub part : (s : List ℕ) (i : ℕ) → take (length s - i) (drop i s) ≡ drop i s
-part s i = take-all (length s - i) (drop i s) (omega (arith, length-drop i s))
 
 pub part-bits : (s : List ℕ) (i : ℕ) → readBits (ofBytes (take 8 (take (length s - i) (drop i s)))) ≡ readBits (number i 8 s)
 unfolding number

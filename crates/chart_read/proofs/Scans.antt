@@ -40,13 +40,12 @@ use Rattle.rules.specs.File.{
 }
 use Rattle.laws.proofs.Tests.{length-snoc}
 use Rattle.laws.proofs.FileSteps.{refused-given, readBehind, read-two, accepted, at-end, at-refused, at-given}
-use Rattle.laws.proofs.FileCode.{Room, stored, levels-stored}
+use Rattle.laws.proofs.FileCode.{Room, stored, levels-stored, part}
 use Rattle.chart_read.specs.declared.Counts.{Counts}
 use Rattle.chart_read.specs.declared.Head.{Head}
 use Rattle.chart_read.specs.declared.Level.{Level}
 use Rattle.chart_read.specs.Heads.{tripleBy, answerOf, fullBy, countBars, counted}
 use Rattle.chart_read.specs.declared.Head.the-variants as head
-use Rattle.chart_read.proofs.Heads.{part}
 
 -- ---- a test for room that goes by the counts
 

@@ -71,21 +71,20 @@ module _ {A : Type 0} (c : Chart) (f : Levels → Answer A) where
   unfolding onChart
   on-good e = rw e
 
--- a chart that is not refused with 21 has counts within its arrays
+-- a chart with counts within its arrays, as one has that is not refused with 21
 pub record Counted (c : Chart) : Type 0 where
   pub strokes : c .«stroke_count» ≤ 512
   pub segments : c .«segment_count» ≤ 256
   pub bigs : c .«big_count» ≤ 256
   pub superiors : c .«superior_count» ≤ 256
 
-pub counted : (c : Chart) → badChart c ≡ false → Counted c
-unfolding badChart overfull
-counted c h =
+pub counts : (c : Chart) → overfull c ≡ false → Counted c
+unfolding overfull
+counts c f =
     let f0 = ltb 512 (c .«stroke_count») in
     let f1 = ltb 256 (c .«segment_count») in
     let f2 = ltb 256 (c .«big_count») in
     let f3 = ltb 256 (c .«superior_count») in
-    let f = or-l (f0 || f1 || f2 || f3) (badLevels (levelsOf c)) h in
     let f012 = or-l (f0 || f1 || f2) f3 f in
     let f01 = or-l (f0 || f1) f2 f012 in
     record {
@@ -94,3 +93,7 @@ counted c h =
       bigs = ltb-false 256 (c .«big_count») (or-r (f0 || f1) f2 f012);
       superiors = ltb-false 256 (c .«superior_count») (or-r (f0 || f1 || f2) f3 f);
     }
+
+pub counted : (c : Chart) → badChart c ≡ false → Counted c
+unfolding badChart
+counted c h = counts c (or-l (overfull c) (badLevels (levelsOf c)) h)

@@ -1,17 +1,22 @@
--- For code that reads and writes: a record put into its array, a lent slice or buffer that is filled further, a test of every element. Assumes nothing.
-use Prim.Native.Nat.{ℕ, _+_, _<_}
+-- For code that reads and writes: a record put into its array, a lent slice or buffer that is filled further, a test of every element, a
+-- record's fields. Assumes nothing.
+use Prim.Native.Nat.{ℕ, suc, _+_, _-_, _*_, _≤_, _<_}
 use native.Mathlib.Omega.{arith}
 use native.Mathlib.Numerals.{add-one}
-use mathlib.Core.Path.{_≡_, refl, ap}
+use mathlib.Core.Path.{_≡_, refl, ap, _∙_}
 use mathlib.Core.Bool.{Bool, false}
 use mathlib.Core.List.{List, [], _∷_, _++_, append-assoc}
-use lib.ListN.{length, getD, take, drop, set, length-append}
-use lib.Seq.{take-suc-set, take-at, drop-at, drop-drop}
+use lib.ListN.{length, getD, take, drop, set, length-append, length-drop}
+use lib.Seq.{take-all, take-suc-set, take-at, drop-at, drop-cons, drop-drop}
+use lib.Ieee.{Float}
+use Rattle.chart.specs.declared.Stroke.{Stroke}
+use Rattle.chart.specs.declared.Triple.{Triple}
 use Rattle.chart.specs.declared.Chart.{Chart}
+use Rattle.price.specs.Bytes.{ofBytes}
 use Rattle.rules.specs.Lists.{any}
 use Rattle.rules.specs.Records.{levelsOf, Quotes}
 use Rattle.rules.specs.Machine.{withStrokes, withSegments, withBigs, withSuperiors}
-use Rattle.rules.specs.File.{Record, stroke, segment, big, superior, bar, append, fill}
+use Rattle.rules.specs.File.{Record, stroke, segment, big, superior, bar, number, price, strokeIn, tripleIn, append, fill}
 use Rattle.laws.proofs.Lists.{false-any, all-getD}
 
 -- ---- one record more in a chart's array, at the place of its count
@@ -106,3 +111,34 @@ module _ {A : Type 0} where
 
   pub none-passes : (p : A → Bool) (d : A) (l : List A) → ((i : ℕ) → i < length l → p (getD l i d) ≡ false) → any p l ≡ false
   none-passes p d l f = false-any p (all-getD d l f)
+
+-- ---- the fields of a record, by the numbers that are read
+
+module _ (s : List ℕ) where
+  pub one-at : (i : ℕ) → suc i ≤ length s → number i 1 s ≡ getD s i 0
+  unfolding number ofBytes
+  one-at i h = rw (drop-cons s i 0 h) (omega arith)
+
+  pub two-at : (i : ℕ) → suc (suc i) ≤ length s → number i 2 s ≡ getD s i 0 + 256 * getD s (suc i) 0
+  unfolding number ofBytes
+  two-at i h = let j : suc i ≤ length s = omega arith in rw (drop-cons s i 0 j, drop-cons s (suc i) 0 h) (omega arith)
+
+pub triple-read :
+    (s : List ℕ) (a b : ℕ) → 5 ≤ length s → a ≡ getD s 1 0 + 256 * getD s 2 0 → b ≡ getD s 3 0 + 256 * getD s 4 0
+    → record { direction = getD s 0 0; first = a; last = b } ≡ tripleIn s
+unfolding tripleIn
+triple-read s a b h e f = rw (one-at s 0 (omega arith), two-at s 1 (omega arith), two-at s 3 h, e, f)
+
+-- the stroke that begins so
+abbrev pub strokeOf : Triple → Float → Float → Stroke
+strokeOf t x y = record { direction = t .direction; «start_bar» = t .first; «end_bar» = t .last; «start_price» = x; «end_price» = y }
+
+pub stroke-read :
+    (s : List ℕ) (t : Triple) → t ≡ tripleIn s → (x y : Float) → price 5 s ≡ x → price 13 s ≡ y → strokeOf t x y ≡ strokeIn s
+unfolding strokeIn tripleIn
+stroke-read s t e x y p q = ap (λ (k : Triple). strokeOf k x y) e ∙ rw (p, q)
+
+-- ---- the part of a slice from a place on
+
+pub part : (s : List ℕ) (i : ℕ) → take (length s - i) (drop i s) ≡ drop i s
+part s i = take-all (length s - i) (drop i s) (omega (arith, length-drop i s))

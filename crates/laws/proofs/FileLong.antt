@@ -101,30 +101,34 @@ read-at-most n bytes c e = omega (arith, read-length n bytes c e, used-le n c (r
 
 -- ---- 23 bytes decide a record
 
-number-in : (i k : ℕ) (xs ys : List ℕ) → i + k ≤ length xs → number i k (xs ++ ys) ≡ number i k xs
+pub number-in : (i k : ℕ) (xs ys : List ℕ) → i + k ≤ length xs → number i k (xs ++ ys) ≡ number i k xs
 unfolding number
 number-in i k xs ys h =
     let j : i ≤ length xs = omega arith in
     let g : k ≤ length (drop i xs) = omega (arith, length-drop i xs) in
     rw (drop-append-le i xs ys j, take-append-le k (drop i xs) ys g)
 
-triple-in : (xs ys : List ℕ) → 21 ≤ length xs → tripleIn (xs ++ ys) ≡ tripleIn xs
+pub triple-in : (xs ys : List ℕ) → 5 ≤ length xs → tripleIn (xs ++ ys) ≡ tripleIn xs
 unfolding tripleIn
-triple-in xs ys h = rw (number-in 0 1 xs ys (omega arith), number-in 1 2 xs ys (omega arith), number-in 3 2 xs ys (omega arith))
+triple-in xs ys h = rw (number-in 0 1 xs ys (omega arith), number-in 1 2 xs ys (omega arith), number-in 3 2 xs ys h)
 
-record-in : (k : Kind) (xs ys : List ℕ) → 21 ≤ length xs → recordIn k (xs ++ ys) ≡ recordIn k xs
-unfolding recordIn strokeIn price
-record-in ST xs ys h =
+pub stroke-in : (xs ys : List ℕ) → 21 ≤ length xs → strokeIn (xs ++ ys) ≡ strokeIn xs
+unfolding strokeIn price
+stroke-in xs ys h =
     rw (
       number-in 0 1 xs ys (omega arith),
       number-in 1 2 xs ys (omega arith),
       number-in 3 2 xs ys (omega arith),
       number-in 5 8 xs ys (omega arith),
-      number-in 13 8 xs ys (omega arith),
+      number-in 13 8 xs ys h,
     )
-record-in SG xs ys h = ap segment (triple-in xs ys h)
-record-in BG xs ys h = ap big (triple-in xs ys h)
-record-in SU xs ys h = ap superior (triple-in xs ys h)
+
+record-in : (k : Kind) (xs ys : List ℕ) → 21 ≤ length xs → recordIn k (xs ++ ys) ≡ recordIn k xs
+unfolding recordIn price
+record-in ST xs ys h = ap stroke (stroke-in xs ys h)
+record-in SG xs ys h = ap segment (triple-in xs ys (omega arith))
+record-in BG xs ys h = ap big (triple-in xs ys (omega arith))
+record-in SU xs ys h = ap superior (triple-in xs ys (omega arith))
 record-in BR xs ys h = rw (number-in 0 8 xs ys (omega arith), number-in 8 8 xs ys (omega arith))
 
 width-le : (k : Kind) → width k ≤ 21

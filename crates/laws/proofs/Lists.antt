@@ -105,6 +105,10 @@ module _ {A : Type 0} where
   all-both h nil nil = nil
   all-both h (cons {x = x} p a) (cons q b) = cons (h x p q) (all-both h a b)
 
+  pub find-none : (p : A → Bool) {xs : List A} → All (λ (x : A). p x ≡ false) xs → find p xs ≡ none
+  find-none p nil = refl
+  find-none p (cons h a) = rw (find, h) (find-none p a)
+
   pub find-in : (p : A → Bool) (xs : List A) (y : A) → find p xs ≡ some y → List·Memᴰ y xs
   find-in p xs y e = all-find p y (all-there xs) e
 

@@ -153,7 +153,7 @@ fn half_of(a: u8, b: u8, c: u8, d: u8) -> u64
 }
 
 // The number that the first eight bytes of s stand for, the lowest first.
-fn number_of(s: &[u8]) -> u64
+pub fn number_of(s: &[u8]) -> u64
     requires { ⌜ 8 ≤ length (now s) ⌝ }
     ensures { λ r. ⌜ r ≡ ofBytes (take 8 (now (s .entry))) ⌝ }
 {

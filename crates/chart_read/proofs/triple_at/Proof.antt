@@ -1,6 +1,6 @@
 -- `chart_read::triple_at` meets its contract. Assumes nothing.
 use borrow.Author.Needs.{needs}
-use Rattle.chart_read.proofs.Fields.{triple-read}
+use Rattle.laws.proofs.FileCode.{triple-read}
 use Rattle.chart_read.proofs.triple_at.Statement.{statement}
 use Rattle.chart_read.proofs.triple_at.Tie as tie
 

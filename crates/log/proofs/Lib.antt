@@ -1,0 +1,4 @@
+pub mod Forms
+pub mod Steps
+pub mod Long
+pub mod Facts

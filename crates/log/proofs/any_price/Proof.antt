@@ -1,0 +1,21 @@
+-- `log::any_price` meets its contract. Assumes nothing.
+use native.Mathlib.Omega.{arith}
+use mathlib.Core.Path.{sym}
+use lib.Ieee.{div, ofBits}
+use borrow.Author.Needs.{needs}
+use Rattle.log.proofs.Forms.{nan-bits, bits-no-nan}
+use Rattle.log.proofs.any_price.Statement.{statement}
+use Rattle.log.proofs.any_price.Tie as tie
+
+returns : tie.Need-returns
+unfolding div ofBits
+returns c = sym (nan-bits (c .before .args .n) (omega arith))
+
+float-from-bits-result : tie.Need-float-from-bits-result
+float-from-bits-result c = bits-no-nan (c .before .args .n) (omega arith)
+
+returns-2 : tie.Need-returns-2
+returns-2 c = search needs
+
+pub any-price-spec : {M : Type 1} → statement M
+any-price-spec = tie.close (tie.spec returns float-from-bits-result returns-2)

@@ -1,0 +1,129 @@
+-- `log::call_in` meets its contract. Assumes nothing.
+use native.Mathlib.Omega.{arith}
+use Prim.Native.Nat.{ℕ}
+use mathlib.Core.Path.{sym, ap, _∙_}
+use mathlib.Core.Option.{some}
+use borrow.Author.Needs.{needs}
+use Rattle.chart.specs.declared.Stroke.{Stroke}
+use Rattle.chart.specs.declared.Triple.{Triple}
+use Rattle.rules.specs.Text.{ascii}
+use Rattle.rules.specs.Machine.{addStroke, addSegment, addBig, addSuperior, lengthen, withdraw, deriveBigs, deriveSuperiors}
+use Rattle.laws.proofs.FileCode.{one-at, two-at}
+use Rattle.log.specs.Log.{forms, formOf}
+use Rattle.log.specs.Calls.{widthBy, callBy}
+use Rattle.log.proofs.Forms.{wide-as, call-as, no-form}
+use Rattle.log.proofs.call_in.Statement.{statement}
+use Rattle.log.proofs.call_in.Tie as tie
+
+stroke-in-requires : tie.Need-stroke-in-requires
+unfolding widthBy formOf forms ascii
+stroke-in-requires c κs = wide-as _ 83 (c .match .keys1) _ (c .before .before .pre)
+
+triple-in-requires : tie.Need-triple-in-requires
+unfolding widthBy formOf forms ascii
+triple-in-requires c κs = wide-as _ 71 (c .match .keys2) _ (c .before .before .pre)
+
+triple-in-requires-2 : tie.Need-triple-in-requires-2
+unfolding widthBy formOf forms ascii
+triple-in-requires-2 c κs = wide-as _ 66 (c .match .keys3) _ (c .before .before .pre)
+
+triple-in-requires-3 : tie.Need-triple-in-requires-3
+unfolding widthBy formOf forms ascii
+triple-in-requires-3 c κs = wide-as _ 85 (c .match .keys4) _ (c .before .before .pre)
+
+shared-slice-read-two-of : tie.Need-shared-slice-read-two-of
+unfolding widthBy formOf forms ascii
+shared-slice-read-two-of c = omega (arith, wide-as _ 76 (c .before .match .keys5) _ (c .before .before .before .pre))
+
+shared-slice-read-two-of-2 : tie.Need-shared-slice-read-two-of-2
+unfolding widthBy formOf forms ascii
+shared-slice-read-two-of-2 c = omega (arith, wide-as _ 76 (c .before .before .match .keys5) _ (c .before .before .before .before .pre))
+
+two-of-requires : tie.Need-two-of-requires
+two-of-requires c κs = search needs
+
+shared-slice-read-t14 : tie.Need-shared-slice-read-t14
+unfolding widthBy formOf forms ascii
+shared-slice-read-t14 c = wide-as _ 87 (c .before .match .keys6) _ (c .before .before .before .pre)
+
+shared-slice-read-t16 : tie.Need-shared-slice-read-t16
+unfolding widthBy formOf forms ascii
+shared-slice-read-t16 c = wide-as _ 68 (c .before .match .keys7) _ (c .before .before .before .pre)
+
+shared-slice-read-t18 : tie.Need-shared-slice-read-t18
+unfolding widthBy formOf forms ascii
+shared-slice-read-t18 c = wide-as _ 69 (c .before .match .keys8) _ (c .before .before .before .pre)
+
+returns : tie.Need-returns
+unfolding callBy formOf forms ascii
+returns c = ap (λ (s : Stroke). some (addStroke s)) (c .stroke-in .ensures) ∙ call-as _ 83 (c .before .match .keys1) _
+
+returns-2 : tie.Need-returns-2
+unfolding callBy formOf forms ascii
+returns-2 c = ap (λ (t : Triple). some (addSegment t)) (c .triple-in .ensures) ∙ call-as _ 71 (c .before .match .keys2) _
+
+returns-3 : tie.Need-returns-3
+unfolding callBy formOf forms ascii
+returns-3 c = ap (λ (t : Triple). some (addBig t)) (c .triple-in2 .ensures) ∙ call-as _ 66 (c .before .match .keys3) _
+
+returns-4 : tie.Need-returns-4
+unfolding callBy formOf forms ascii
+returns-4 c = ap (λ (t : Triple). some (addSuperior t)) (c .triple-in3 .ensures) ∙ call-as _ 85 (c .before .match .keys4) _
+
+returns-5 : tie.Need-returns-5
+unfolding widthBy callBy formOf forms ascii
+returns-5 c =
+    let arm = c .before .before .before in
+    let e = arm .match .keys5 in
+    ap (λ (n : ℕ). some (lengthen n)) (c .two-of .ensures ∙ sym (two-at _ 0 (wide-as _ 76 e _ (arm .before .before .pre)))) ∙ call-as _ 76 e _
+
+returns-6 : tie.Need-returns-6
+unfolding widthBy callBy formOf forms ascii
+returns-6 c =
+    let e = c .before .match .keys6 in
+    ap (λ (n : ℕ). some (withdraw n)) (sym (one-at _ 0 (wide-as _ 87 e _ (c .before .before .before .pre)))) ∙ call-as _ 87 e _
+
+returns-7 : tie.Need-returns-7
+unfolding widthBy callBy formOf forms ascii
+returns-7 c =
+    let e = c .before .match .keys7 in
+    ap (λ (n : ℕ). some (deriveBigs n)) (sym (one-at _ 0 (wide-as _ 68 e _ (c .before .before .before .pre)))) ∙ call-as _ 68 e _
+
+returns-8 : tie.Need-returns-8
+unfolding widthBy callBy formOf forms ascii
+returns-8 c =
+    let e = c .before .match .keys8 in
+    ap (λ (n : ℕ). some (deriveSuperiors n)) (sym (one-at _ 0 (wide-as _ 69 e _ (c .before .before .before .pre)))) ∙ call-as _ 69 e _
+
+returns-9 : tie.Need-returns-9
+unfolding callBy
+returns-9 c =
+    let no = c .match .rest .0 .0 .0 .0 in
+    let other =
+    no-form _ (no .0 .0 .0 .1) (no .0 .0 .1) (no .0 .1) (no .1) (c .match .rest .0 .0 .0 .1) (c .match .rest .0 .0 .1) (c .match .rest .0 .1)
+    (c .match .rest .1) in
+    rw other
+
+pub call-in-spec : {M : Type 1} → statement M
+call-in-spec =
+    tie.close
+    (tie.spec
+    stroke-in-requires
+    triple-in-requires
+    triple-in-requires-2
+    triple-in-requires-3
+    shared-slice-read-two-of
+    shared-slice-read-two-of-2
+    two-of-requires
+    shared-slice-read-t14
+    shared-slice-read-t16
+    shared-slice-read-t18
+    returns
+    returns-2
+    returns-3
+    returns-4
+    returns-5
+    returns-6
+    returns-7
+    returns-8
+    returns-9)
