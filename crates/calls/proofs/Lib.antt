@@ -1,0 +1,4 @@
+pub mod Last
+pub mod Chain
+pub mod Single
+pub mod Broken

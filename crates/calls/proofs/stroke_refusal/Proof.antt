@@ -1,0 +1,65 @@
+-- `calls::stroke_refusal` meets its contract. Assumes nothing.
+use Prim.Native.Nat.{_≤_}
+use native.Mathlib.Omega.{arith}
+use mathlib.Core.Path.{_≡_, _∙_}
+use lib.ListN.{length}
+use Rattle.rules.specs.Records.{levelsOf}
+use Rattle.rules.specs.Refusals.{overfull}
+use Rattle.laws.proofs.Arrays.{length-via}
+use Rattle.levels.proofs.Tests.{counts-fit}
+use Rattle.calls.proofs.Chain.{stroke-number}
+use borrow.Author.Needs.{needs}
+use Rattle.calls.proofs.stroke_refusal.Statement.{statement}
+use Rattle.calls.proofs.stroke_refusal.Tie as tie
+
+fits : (c : tie.Start) → c .args .t1 .«stroke_count» ≤ 512
+unfolding overfull
+fits c = counts-fit (c .args .t1) (c .pre) .strokes
+
+long : (c : tie.Start) → c .args .t1 .«stroke_count» ≤ length (c .args .t1 .strokes)
+long c = let size : length (c .args .t1 .strokes) ≡ 512 = search (needs, length-via) in omega (arith, fits c)
+
+last-place-requires : tie.Need-last-place-requires
+last-place-requires c κs = search needs
+
+mul-p : tie.Need-mul-p
+mul-p c = search needs
+
+element-copy-out-p : tie.Need-element-copy-out-p
+element-copy-out-p c = omega (arith, c .last-place .ensures, fits (c .before))
+
+bad-prices-requires : tie.Need-bad-prices-requires
+bad-prices-requires c κs = search needs
+
+bad-stroke-requires : tie.Need-bad-stroke-requires
+bad-stroke-requires c κs = search needs
+
+unjoined-from-requires : tie.Need-unjoined-from-requires
+unjoined-from-requires c κs = search needs
+
+first-of-requires : tie.Need-first-of-requires
+first-of-requires c κs = search needs
+
+returns : tie.Need-returns
+unfolding levelsOf
+returns c =
+    let joined = c .before in
+    let ordered = joined .before in
+    let priced = ordered .before in
+    let placed = priced .before .before .before in
+    c .first-of .ensures
+    ∙ stroke-number _ _ _ _ _ _ _ (long (placed .before)) (placed .last-place .ensures) (priced .bad-prices .ensures) (ordered .bad-stroke .ensures)
+    (joined .unjoined-from .ensures)
+
+pub stroke-refusal-spec : {M : Type 1} → statement M
+stroke-refusal-spec =
+    tie.close
+    (tie.spec
+    last-place-requires
+    mul-p
+    element-copy-out-p
+    bad-prices-requires
+    bad-stroke-requires
+    unjoined-from-requires
+    first-of-requires
+    returns)

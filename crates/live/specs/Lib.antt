@@ -1,0 +1,3 @@
+pub mod Did
+pub mod Steps
+pub mod Sequence
