@@ -10,7 +10,7 @@ use lib.Dec.{eqb}
 use borrow.Author.Tests.{eqb-true, eqb-false, ne-eqb}
 use Rattle.chart.specs.declared.Chart.{Chart}
 use Rattle.rules.specs.Lists.{isEmpty}
-use Rattle.levels.proofs.Tests.{Counts}
+use Rattle.laws.proofs.Answers.{Counted}
 
 module _ {A : Type 0} where
   last-at : (i : ℕ) (xs : List A) (d : A) → i < length xs → getLast? (take (suc i) xs) ≡ some (getD xs i d)
@@ -47,5 +47,5 @@ pub record Long (c : Chart) : Type 0 where
   pub superiors : c .«superior_count» ≤ length (c .superiors)
 
 pub long-of :
-    (c : Chart) → Counts c → length (c .strokes) ≡ 512 → length (c .segments) ≡ 256 → length (c .bigs) ≡ 256 → length (c .superiors) ≡ 256 → Long c
+    (c : Chart) → Counted c → length (c .strokes) ≡ 512 → length (c .segments) ≡ 256 → length (c .bigs) ≡ 256 → length (c .superiors) ≡ 256 → Long c
 long-of c f s g b u = record { strokes = omega arith; segments = omega arith; bigs = omega arith; superiors = omega arith }

@@ -1,27 +1,19 @@
 -- Laws of refusal 21: a test on what is left of a level, and the tests on a chart put together. Assumes nothing.
 use Prim.Native.Nat.{ℕ, _+_, _<_, _≤_}
 use mathlib.Core.Path.{_≡_, refl}
-use mathlib.Core.Bool.{Bool, true, false, not, _||_}
+use mathlib.Core.Bool.{Bool, true, false, not, _||_, or-true, or-false}
 use mathlib.Core.List.{List}
 use lib.ListN.{length, getD, take, drop}
 use lib.Dec.{ltb}
-use borrow.Author.Tests.{ltb-false}
 use Rattle.chart.specs.declared.Stroke.{Stroke}
 use Rattle.chart.specs.declared.Chart.{Chart}
 use Rattle.price.specs.Price.{isPrice}
 use Rattle.rules.specs.Lists.{any}
 use Rattle.rules.specs.Records.{levelsOf}
 use Rattle.rules.specs.Refusals.{wrongStroke, wrongTriple, badPrices, overfull, badLevels, badChart}
-use Rattle.laws.proofs.Tests.{or-l, or-r}
+use Rattle.laws.proofs.Answers.{Counted}
+use Rattle.laws.proofs.Answers as laws
 use Rattle.laws.proofs.Arrays.{left-more, left-none}
-
-or-true : (b : Bool) → (b || true) ≡ true
-or-true true = refl
-or-true false = refl
-
-or-false : (b : Bool) → (b || false) ≡ b
-or-false true = refl
-or-false false = refl
 
 -- ---- the places of a level from i on
 module _ {A : Type 0} (p : A → Bool) (n i : ℕ) (xs : List A) (k : n ≤ length xs) where
@@ -50,31 +42,13 @@ module _ (s : Stroke) where
 
 -- ---- a chart
 
--- no count is above its array's size
-pub record Counts (c : Chart) : Type 0 where
-  pub strokes : c .«stroke_count» ≤ 512
-  pub segments : c .«segment_count» ≤ 256
-  pub bigs : c .«big_count» ≤ 256
-  pub superiors : c .«superior_count» ≤ 256
-
 module _ (c : Chart) where
   abbrev counts : Bool
   counts = ltb 512 (c .«stroke_count») || ltb 256 (c .«segment_count») || ltb 256 (c .«big_count») || ltb 256 (c .«superior_count»)
 
-  pub counts-fit : counts ≡ false → Counts c
-  counts-fit e =
-      let s = ltb 512 (c .«stroke_count») in
-      let g = ltb 256 (c .«segment_count») in
-      let b = ltb 256 (c .«big_count») in
-      let u = ltb 256 (c .«superior_count») in
-      let sgb = or-l (s || g || b) u e in
-      let sg = or-l (s || g) b sgb in
-      record {
-        strokes = ltb-false _ _ (or-l s g sg);
-        segments = ltb-false _ _ (or-r s g sg);
-        bigs = ltb-false _ _ (or-r (s || g) b sgb);
-        superiors = ltb-false _ _ (or-r (s || g || b) u e);
-      }
+  pub counts-fit : counts ≡ false → Counted c
+  unfolding overfull
+  counts-fit e = laws.counts c e
 
   pub bad-counts : counts ≡ true → true ≡ badChart c
   unfolding badChart overfull

@@ -2,16 +2,15 @@
 use mathlib.Core.Path.{sym, _∙_}
 use Rattle.rules.specs.Refusals.{overfull}
 use Rattle.laws.proofs.Arrays.{length-via}
-use Rattle.levels.proofs.Tests.{Counts, counts-fit}
+use Rattle.laws.proofs.Answers.{Counted, counts}
 use Rattle.calls.proofs.Last.{Long, long-of}
 use Rattle.calls.proofs.Broken.{levels-strokes, levels-segments, levels-bigs, levels-superiors}
 use borrow.Author.Needs.{needs}
 use Rattle.calls.proofs.broken_levels.Statement.{statement}
 use Rattle.calls.proofs.broken_levels.Tie as tie
 
-fits : (c : tie.Start) → Counts (c .args .chart)
-unfolding overfull
-fits c = counts-fit (c .args .chart) (c .pre)
+fits : (c : tie.Start) → Counted (c .args .chart)
+fits c = counts (c .args .chart) (c .pre)
 
 long : (c : tie.Start) → Long (c .args .chart)
 long c =

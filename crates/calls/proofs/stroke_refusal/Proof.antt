@@ -6,15 +6,14 @@ use lib.ListN.{length}
 use Rattle.rules.specs.Records.{levelsOf}
 use Rattle.rules.specs.Refusals.{overfull}
 use Rattle.laws.proofs.Arrays.{length-via}
-use Rattle.levels.proofs.Tests.{counts-fit}
+use Rattle.laws.proofs.Answers.{counts}
 use Rattle.calls.proofs.Chain.{stroke-number}
 use borrow.Author.Needs.{needs}
 use Rattle.calls.proofs.stroke_refusal.Statement.{statement}
 use Rattle.calls.proofs.stroke_refusal.Tie as tie
 
 fits : (c : tie.Start) → c .args .t1 .«stroke_count» ≤ 512
-unfolding overfull
-fits c = counts-fit (c .args .t1) (c .pre) .strokes
+fits c = counts (c .args .t1) (c .pre) .strokes
 
 long : (c : tie.Start) → c .args .t1 .«stroke_count» ≤ length (c .args .t1 .strokes)
 long c = let size : length (c .args .t1 .strokes) ≡ 512 = search (needs, length-via) in omega (arith, fits c)

@@ -5,16 +5,15 @@ use borrow.Author.Tests.{eq-eqb, ne-eqb}
 use Rattle.rules.specs.Records.{levelsOf}
 use Rattle.rules.specs.Refusals.{overfull}
 use Rattle.laws.proofs.Arrays.{length-via}
-use Rattle.levels.proofs.Tests.{Counts, counts-fit}
+use Rattle.laws.proofs.Answers.{Counted, counts}
 use Rattle.calls.proofs.Last.{Long, long-of, empty-taken}
 use Rattle.calls.proofs.Chain.{refuse-here, refuse-later, under, of-strokes, of-segments, of-bigs, of-superiors, of-no-level}
 use borrow.Author.Needs.{needs}
 use Rattle.calls.proofs.withdraw_refusal.Statement.{statement}
 use Rattle.calls.proofs.withdraw_refusal.Tie as tie
 
-fits : (c : tie.Start) → Counts (c .args .chart)
-unfolding overfull
-fits c = counts-fit (c .args .chart) (c .pre)
+fits : (c : tie.Start) → Counted (c .args .chart)
+fits c = counts (c .args .chart) (c .pre)
 
 abbrev start : tie.Else4 → tie.Start
 start c = c .before .before .before .before

@@ -6,7 +6,8 @@ use lib.ListN.{length, take, drop}
 use Rattle.rules.specs.Lists.{any}
 use Rattle.rules.specs.Refusals.{wrongStroke, badChart}
 use Rattle.laws.proofs.Arrays.{length-via}
-use Rattle.levels.proofs.Tests.{any-here, any-later, any-none, Counts, counts-fit, bad-counts, bad-segments, bad-bigs, bad-superiors, bad-strokes}
+use Rattle.laws.proofs.Answers.{Counted}
+use Rattle.levels.proofs.Tests.{any-here, any-later, any-none, counts-fit, bad-counts, bad-segments, bad-bigs, bad-superiors, bad-strokes}
 use Rattle.levels.proofs.Read.{no-stroke}
 use borrow.Author.Needs.{needs}
 use Rattle.levels.proofs.bad_chart.Statement.{statement}
@@ -21,7 +22,7 @@ abbrev μ-loop : tie.MeasureT-loop
 strokes-long : (c : tie.Start Inv-loop μ-loop) → length (c .args .t1 .strokes) ≡ 512
 strokes-long c = search (needs, length-via)
 
-fits : (c : tie.Else1 Inv-loop μ-loop) → Counts (c .before .before .args .t1)
+fits : (c : tie.Else1 Inv-loop μ-loop) → Counted (c .before .before .args .t1)
 fits c = counts-fit (c .before .before .args .t1) (sym (c .before .overfull .ensures) ∙ c .if1 .left)
 
 abbrev start : tie.At-loop Inv-loop μ-loop → tie.Start Inv-loop μ-loop
