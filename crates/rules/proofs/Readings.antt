@@ -134,6 +134,11 @@ pub record Facts : Type 0 where
   pub after-is-by-bar :
       thirdMarks (levelled (strokesOf 0 (turn 0 0 ∷ turn 0 0 ∷ turn 0 0 ∷ turn 0 1 ∷ [])) (triple 0 1 0 ∷ [])) (flat 1 0 0)
       ≡ []
+  -- the first up big that ends after the anchor's bar ends below the anchor's price
+  pub c-is-by-bar-and-not-by-price :
+      thirdMarks (levelled (stroke 1 (turn 0 0) (turn 1 2) ∷ stroke 1 (turn 1 2) (turn 2 1) ∷ stroke 1 (turn 2 1) (turn 3 4) ∷ stroke 0
+      (turn 3 4) (turn 4 2) ∷ []) (triple 1 1 0 ∷ [])) (flat 5 0 3)
+      ≡ anchorThird true 4 3 1 ∷ []
   -- the down big ends before C's big
   pub the-retest-may-come-before-c :
       thirdMarks (chartOf (triple 1 1 0 ∷ []) (turn 0 0 ∷ turn 1 1 ∷ turn 2 0 ∷ turn 3 1 ∷ [])) (flat 4 0 2)
@@ -286,6 +291,7 @@ facts =
       not-the-last-qualifying-superior = refl;
       c-is-first-by-index = refl;
       after-is-by-bar = refl;
+      c-is-by-bar-and-not-by-price = refl;
       the-retest-may-come-before-c = refl;
       anchors-where-superior-0-is-skipped = refl;
       anchors-where-first-is-behind-last = refl;

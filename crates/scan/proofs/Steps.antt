@@ -3,7 +3,7 @@ use Prim.Native.Nat.{ℕ, zero, suc, _+_, _-_, _<_, _≤_, min}
 use native.Mathlib.Omega.{arith}
 use native.Mathlib.Numerals.{add-one}
 use mathlib.Core.Path.{_≡_, refl, sym, ap, _∙_}
-use mathlib.Core.Bool.{Bool, true, false, cond, not, _&&_, _||_, Bool·beq, true≢false, false≢true}
+use mathlib.Core.Bool.{Bool, true, false, not, _&&_, _||_, Bool·beq, true≢false, false≢true}
 use mathlib.Core.List.{List, [], _∷_, map}
 use mathlib.Core.Option.{Option, none, some}
 use lib.ListN.{length, getD, getElem?, take, drop, length-drop}
@@ -19,6 +19,7 @@ use Rattle.rules.specs.Lists.{keep, find, any, collect}
 use Rattle.rules.specs.Records.{isUp, Levels, Quotes}
 use Rattle.rules.specs.Ranges.{rangeOf, lastStroke}
 use Rattle.rules.specs.Marks.{leaving, reachesZone, superiorEnd, reaches, pairEnds, quote}
+use Rattle.laws.proofs.Tests.{and-r}
 use Rattle.laws.proofs.Lists.{map-at}
 use Rattle.columns.specs.Columns.{Column, startOf, endOf, barOf}
 use Rattle.scan.specs.Scan.{reached, overAt, offered, reversalIn, endsIn, NextEnd}
@@ -138,27 +139,18 @@ near-min a s bar k = go (ltb a s) refl
             go2 true = refl
             go2 false = refl
 
-near-far : (a bar : ℕ) → a ≤ 0x1_0000 → near (min a 0x1_0000) bar ≡ near a bar
-near-far a bar h = let m : min a 0x1_0000 ≡ a = omega arith in rw m
+near-far : (a s bar : ℕ) → 0x1_0000 ≤ s → near (min a s) bar ≡ near a bar
+near-far a s bar h = go (ltb a s) refl
+  where
+    go : (t : Bool) → ltb a s ≡ t → near (min a s) bar ≡ near a bar
+    go true f = let below = ltb-true a s f in let m : min a s ≡ a = omega arith in rw m
+    go false f =
+        let above = ltb-false a s f in
+        let m : min a s ≡ s = omega arith in
+        rw (m, le-ltb s 0x1_0000 h, le-ltb a 0x1_0000 (omega arith))
 
 abbrev pub passes : Zone → ℕ → Zone → Bool
 passes z bar y = not (eqb (y .«sup_idx») (z .«sup_idx»)) && ltb (z .«end_bar») (y .«start_bar») && leb (y .«start_bar») bar
-
--- one more zone
-near-next :
-    (z y : Zone) (least start bar : ℕ) → least ≤ 0x1_0000 → y .«start_bar» < 0x1_0000
-    → start ≡ offered (z .«sup_idx») (z .«end_bar») (y .«sup_idx») (y .«start_bar»)
-    → near (min least start) bar ≡ (near least bar || passes z bar y)
-near-next z y least start bar h k e =
-    rw e (go (not (eqb (y .«sup_idx») (z .«sup_idx»)) && ltb (z .«end_bar») (y .«start_bar»)))
-  where
-    go : (t : Bool) → near (min least (cond t (y .«start_bar») 0x1_0000)) bar ≡ (near least bar || (t && leb (y .«start_bar») bar))
-    go true = near-min least (y .«start_bar») bar k
-    go false = near-far least bar h ∙ go2 (near least bar)
-      where
-        go2 : (v : Bool) → v ≡ (v || false)
-        go2 true = refl
-        go2 false = refl
 
 or-assoc : (a b c : Bool) → ((a || b) || c) ≡ (a || (b || c))
 or-assoc true b c = refl
@@ -168,38 +160,79 @@ or-nothing : (a : Bool) → (a || false) ≡ a
 or-nothing true = refl
 or-nothing false = refl
 
-pub zone-first : (zs : List Zone) (z : Zone) (bar : ℕ) → (near 0x1_0000 bar || any (passes z bar) (drop 0 zs)) ≡ reachesZone zs z bar
+-- what a zone offers, counted from e + 1: its start bar, or behind all bars
+offered-start : (h e owner start : ℕ) → eqb owner h ≡ false → e < start → start < 0x1_0000 → offered h e owner start + suc e ≡ start
+offered-start h e owner start f below fits = rw f (omega arith)
+
+offered-same : (h e owner start : ℕ) → eqb owner h ≡ true → 0x1_0000 ≤ offered h e owner start + suc e
+offered-same h e owner start f = rw f (omega arith)
+
+offered-sooner : (h e owner start : ℕ) → eqb owner h ≡ false → start ≤ e → e < 0x1_0000 → 0x1_0000 ≤ offered h e owner start + suc e
+offered-sooner h e owner start f above fits = rw f (omega arith)
+
+-- one more zone
+near-next :
+    (z y : Zone) (least more bar : ℕ) → z .«end_bar» < 0x1_0000 → y .«start_bar» < 0x1_0000
+    → more ≡ offered (z .«sup_idx») (z .«end_bar») (y .«sup_idx») (y .«start_bar»)
+    → near (min least more + suc (z .«end_bar»)) bar ≡ (near (least + suc (z .«end_bar»)) bar || passes z bar y)
+near-next z y least more bar h k same = rw shifted (go (eqb (y .«sup_idx») (z .«sup_idx»)) refl)
+  where
+    shifted : min least more + suc (z .«end_bar») ≡ min (least + suc (z .«end_bar»)) (more + suc (z .«end_bar»))
+    shifted = omega arith
+
+    far : 0x1_0000 ≤ more + suc (z .«end_bar») → near (min (least + suc (z .«end_bar»)) (more + suc (z .«end_bar»))) bar ≡ (near (least + suc (z .«end_bar»)) bar || false)
+    far w = near-far (least + suc (z .«end_bar»)) (more + suc (z .«end_bar»)) bar w ∙ sym (or-nothing (near (least + suc (z .«end_bar»)) bar))
+
+    go :
+        (t : Bool) → eqb (y .«sup_idx») (z .«sup_idx») ≡ t
+        → near (min (least + suc (z .«end_bar»)) (more + suc (z .«end_bar»))) bar
+        ≡ (near (least + suc (z .«end_bar»)) bar || (not t && ltb (z .«end_bar») (y .«start_bar») && leb (y .«start_bar») bar))
+    go true f = far (rw same (offered-same (z .«sup_idx») (z .«end_bar») (y .«sup_idx») (y .«start_bar») f))
+    go false f = by (ltb (z .«end_bar») (y .«start_bar»)) refl
+      where
+        by :
+            (u : Bool) → ltb (z .«end_bar») (y .«start_bar») ≡ u
+            → near (min (least + suc (z .«end_bar»)) (more + suc (z .«end_bar»))) bar
+            ≡ (near (least + suc (z .«end_bar»)) bar || (u && leb (y .«start_bar») bar))
+        by true w =
+            let at : more + suc (z .«end_bar») ≡ y .«start_bar» = rw same (offered-start (z .«sup_idx») (z .«end_bar») (y .«sup_idx») (y .«start_bar») f (ltb-true (z .«end_bar») (y .«start_bar») w) k) in
+            rw at (near-min (least + suc (z .«end_bar»)) (y .«start_bar») bar k)
+        by false w = far (rw same (offered-sooner (z .«sup_idx») (z .«end_bar») (y .«sup_idx») (y .«start_bar») f (ltb-false (z .«end_bar») (y .«start_bar») w) h))
+
+pub zone-first : (zs : List Zone) (z : Zone) (bar : ℕ) → (near (0xffff + suc (z .«end_bar»)) bar || any (passes z bar) (drop 0 zs)) ≡ reachesZone zs z bar
 unfolding reachesZone
-zone-first zs z bar = refl
+zone-first zs z bar = rw (le-ltb (0xffff + suc (z .«end_bar»)) 0x1_0000 (omega arith))
 
 -- the zones from place i on are left to look at
 module _
     (owners starts : List ℕ) (n : ℕ) (zs : List Zone) (z : Zone) (by-owner : Column (λ (y : Zone). y .«sup_idx») n owners zs)
     (by-start : Column (λ (y : Zone). y .«start_bar») n starts zs) (least i bar : ℕ)
-    (left : (near least bar || any (passes z bar) (drop i zs)) ≡ reachesZone zs z bar)
+    (left : (near (least + suc (z .«end_bar»)) bar || any (passes z bar) (drop i zs)) ≡ reachesZone zs z bar)
   where
     abbrev y : Zone
     y = getD zs i no-zone
 
     pub zone-next :
-        (start : ℕ) → i < n → least ≤ 0x1_0000 → getD starts i 0 < 0x1_0000
-        → start ≡ offered (z .«sup_idx») (z .«end_bar») (getD owners i 0) (getD starts i 0)
-        → (near (min least start) bar || any (passes z bar) (drop (i + 1) zs)) ≡ reachesZone zs z bar
-    zone-next start h k s e =
+        (more : ℕ) → i < n → z .«end_bar» < 0x1_0000 → getD starts i 0 < 0x1_0000
+        → more ≡ offered (z .«sup_idx») (z .«end_bar») (getD owners i 0) (getD starts i 0)
+        → (near (min least more + suc (z .«end_bar»)) bar || any (passes z bar) (drop (i + 1) zs)) ≡ reachesZone zs z bar
+    zone-next more h k s e =
         let at-owner : getD owners i 0 ≡ y .«sup_idx» = column-at _ n owners zs by-owner i no-zone h in
         let at-start : getD starts i 0 ≡ y .«start_bar» = column-at _ n starts zs by-start i no-zone h in
-        rw (near-next z y least start bar k (rw at-start at s) (rw (at-owner, at-start) at e), or-assoc)
+        rw (near-next z y least more bar k (rw at-start at s) (rw (at-owner, at-start) at e), or-assoc)
         (rw (records-more _ n owners zs by-owner i no-zone h) at left)
 
-    pub zone-none : n ≤ i → near least bar ≡ reachesZone zs z bar
+    pub zone-none : n ≤ i → near (least + suc (z .«end_bar»)) bar ≡ reachesZone zs z bar
     zone-none h = rw (records-none _ n owners zs by-owner i h, or-nothing) at left
 
--- the limit that the least start bar is
-pub reached-none : (least bar : ℕ) → least ≡ 0x1_0000 → reached 0 bar ≡ near least bar
-reached-none least bar e = rw (e, le-ltb 0x1_0000 0x1_0000 (omega arith))
+-- the limit that the least start bar is, counted from e + 1
+pub reached-none : (least end e bar : ℕ) → end ≡ e → 0xffff - e ≤ least → reached 0 bar ≡ near (least + suc end) bar
+reached-none least end e bar same h = rw (same, le-ltb (least + suc e) 0x1_0000 (omega arith))
 
-pub reached-least : (least bar : ℕ) → least ≤ 0x1_0000 → (least ≡ 0x1_0000 → ⊥) → reached (least + 1) bar ≡ near least bar
-reached-least least bar h e = rw (add-one least, lt-ltb least 0x1_0000 (omega arith))
+pub reached-least : (least end e bar : ℕ) → end ≡ e → least < 0xffff - e → reached (least + e + 2) bar ≡ near (least + suc end) bar
+reached-least least end e bar same h =
+    let from-one : least + e + 2 ≡ suc (least + suc e) = omega arith in
+    rw (same, from-one, lt-ltb (least + suc e) 0x1_0000 (omega arith))
 
 -- ---- the first end bar of a superior
 
@@ -423,6 +456,13 @@ module _
         pairs-skip e w = rw two-left (pair-left ∙ pair-skip c stop limit limits d here next _ (tested ∙ e) (rw at-way at w))
 
 -- ---- ends of bigs
+
+-- a big that passes the test ends behind `after`
+pub ends-after :
+    (ways bars : List ℕ) (k after : ℕ) (up t : Bool) → t ≡ (Bool·beq (isUp (getD ways k 0)) up && ltb after (getD bars k 0)) → t ≡ true
+    → after < getD bars k 0
+ends-after ways bars k after up t e h =
+    ltb-true after (getD bars k 0) (and-r (Bool·beq (isUp (getD ways k 0)) up) (ltb after (getD bars k 0)) (sym e ∙ h))
 
 module _ (c : Levels) (up : Bool) (bar : ℕ) (b : Triple) (bs : List Triple) where
   abbrev later : Stroke → Bool

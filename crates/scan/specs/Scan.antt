@@ -1,9 +1,9 @@
 -- What the scan's columns and steps stand for. Assumes nothing.
 use mathlib.Core.Path.{_≡_}
-use mathlib.Core.Bool.{Bool, true, false, cond, not, _&&_, Bool·beq}
+use mathlib.Core.Bool.{Bool, true, false, cond, not, Bool·beq}
 use mathlib.Core.List.{List, [], _∷_, map}
 use mathlib.Core.Option.{Option, none, some}
-use Prim.Native.Nat.{ℕ, zero, suc, _-_, _<_, _≤_}
+use Prim.Native.Nat.{ℕ, zero, suc, _+_, _-_, _%_, _<_, _≤_}
 use lib.ListN.{drop, getD, getElem?}
 use lib.Dec.{eqb, leb, ltb}
 use lib.Ieee.{Float}
@@ -32,9 +32,10 @@ abbrev pub overAt : ℕ → ℕ → Bool
 overAt limit zero = true
 overAt limit (suc bar) = reached limit bar
 
--- the start bar of a zone that is of another superior than h and starts behind bar e; else the bar behind all
+-- how many bars a zone that is of another superior than h and starts behind bar e does so behind e + 1; else so many that e + 1 and they
+-- are behind all bars
 abbrev pub offered : ℕ → ℕ → ℕ → ℕ → ℕ
-offered h e owner start = cond (not (eqb owner h) && ltb e start) start 0x1_0000
+offered h e owner start = cond (eqb owner h) 0xffff ((start + (0xffff - e)) % 0x1_0000)
 
 -- the stroke with the first end bar behind e among these superiors that are not of direction d
 abbrev pub reversalIn : Levels → ℕ → ℕ → List Triple → Option Stroke

@@ -1,19 +1,20 @@
 // The scan of a zone's pairs, for third and 3+N marks: where it starts, what stops it, and the next pair. Bigs, superiors and zones are
 // lent as columns; a bar in a column is counted from 1, and 0 stands for none.
-use chart::Chart;
+use chart::Slot;
 use chart::Triple;
 use chart::Zone;
 ghost use mathlib.Core.Path.{_≡_};
 ghost use mathlib.Core.Bool.{Bool, false, not, _&&_, _||_, Bool·beq};
 ghost use mathlib.Core.List.{List, map};
 ghost use Prim.Native.Nat.{ℕ, suc, _+_, _-_, _≤_, _<_, min};
-ghost use lib.ListN.{length, take, drop};
+ghost use lib.ListN.{length, take, drop, getD};
 ghost use lib.Dec.{eqb, leb, ltb};
 ghost use lib.Ieee.{Float};
 ghost use Rattle.chart.specs.declared.Triple.{Triple};
 ghost use Rattle.chart.specs.declared.Zone.{Zone};
+ghost use Rattle.chart.specs.Table.{rangesIn};
 ghost use Rattle.rules.specs.Lists.{any};
-ghost use Rattle.rules.specs.Records.{isUp, Levels, levelsOf, Quotes};
+ghost use Rattle.rules.specs.Records.{isUp, Levels, Quotes};
 ghost use Rattle.rules.specs.Ranges.{rangeOf, lastStroke};
 ghost use Rattle.rules.specs.Marks.{superiorOf, leaving, reachesZone, superiorEnd, pairEnds, quote};
 ghost use Rattle.columns.specs.Columns.{Column, startOf, endOf, barOf};
@@ -48,14 +49,21 @@ fn start_of(starts: &[u32], m: usize, first: usize, last: usize, e: u32) -> usiz
 
 // ---- what stops it
 
-// The start bar of a zone where it is of another superior than h and starts behind bar e, and the bar behind all elsewhere.
-fn offered(h: u16, e: u16, owner: u16, start: u16) -> u32
-    ensures { λ r. ⌜ (r ≡ offered h e owner start) × (r ≤ 0x1_0000) × (start < 0x1_0000) ⌝ }
+// How many bars a zone starts behind bar e + 1, where it is of another superior than h and starts behind e; elsewhere so many that they
+// lead behind all bars. A sum that wraps, so that no test stands in the loop.
+fn offered(h: u16, e: u16, owner: u16, start: u16) -> u16
+    ensures { λ r. ⌜ (r ≡ offered h e owner start) × (start < 0x1_0000) × (e < 0x1_0000) ⌝ }
 {
     if owner == h {
-        return 65536;
+        return 65535;
     }
-    if e < start { start as u32 } else { 65536 }
+    ((start as u32 + (65535 - e as u32)) % 65536) as u16
+}
+
+fn sooner(a: u16, b: u16) -> u16
+    ensures { λ r. ⌜ r ≡ min a b ⌝ }
+{
+    if a < b { a } else { b }
 }
 
 fn nearer(a: u32, b: u32) -> u32
@@ -70,14 +78,18 @@ fn next_zone(owners: &[u16], starts: &[u16], n: usize, h: u16, e: u16) -> u32
     requires { ⌜ (n ≤ length (now owners)) × (n ≤ length (now starts)) ⌝ }
     ensures { λ r. ⌜ ((zs : List Zone) (z : Zone) → Column (λ (y : Zone). y .«sup_idx») n (now (owners .entry)) zs → Column (λ (y : Zone). y .«start_bar») n (now (starts .entry)) zs → z .«sup_idx» ≡ h → z .«end_bar» ≡ e → (bar : ℕ) → reached r bar ≡ reachesZone zs z bar) ⌝ }
 {
-    let mut least = 65536u32;
+    let mut least = 65535u16;
     let mut i = 0usize;
     while i < n {
-        let start = offered(h, e, owners[i], starts[i]);
-        least = nearer(least, start);
+        let more = offered(h, e, owners[i], starts[i]);
+        least = sooner(least, more);
         i += 1;
     }
-    if least == 65536 { 0 } else { least + 1 }
+    if least < 65535 - e {
+        least as u32 + e as u32 + 2
+    } else {
+        0
+    }
 }
 
 // Whether a superior is not of direction d and ends behind `after`.
@@ -267,26 +279,28 @@ pub struct Scans {
     pub limits: [u32; 256],
 }
 
-// The scans of the first n zones, whose superiors are the chart's.
-pub fn scans_of(chart: Chart, zones: [Zone; 256], n: usize) -> Scans
-    requires { ⌜ (chart .«stroke_count» ≤ 512) × (chart .«segment_count» ≤ 256) × (chart .«big_count» ≤ 256) × (chart .«superior_count» ≤ 256) × (n ≤ 256) ⌝ }
-    requires { ⌜ any (λ (z : Zone). leb (chart .«superior_count») (z .«sup_idx»)) (take n zones) ≡ false ⌝ }
-    ensures { λ r. ⌜ ScansOf (levelsOf chart) (take n zones) n (chart .«big_count») r ⌝ }
+// The scans of the first n zones, whose superiors are among the first h. The bigs are the first m, the slots have their ranges, and
+// the end bars of their end points are lent, so that no chart is copied.
+pub fn scans_of(
+    bigs: [Triple; 256],
+    slots: [Slot; 256],
+    points: &[u32],
+    m: usize,
+    superiors: [Triple; 256],
+    h: usize,
+    zones: [Zone; 256],
+    n: usize,
+) -> Scans
+    requires { ⌜ (m ≤ 256) × (m ≤ length (now points)) × (h ≤ 256) × (n ≤ 256) ⌝ }
+    requires { ⌜ any (λ (z : Zone). leb h (z .«sup_idx»)) (take n zones) ≡ false ⌝ }
+    ensures { λ r. ⌜ ((c : Levels) → take m bigs ≡ c .bigs → take h superiors ≡ c .superiors → rangesIn m slots ≡ map (rangeOf c) (c .bigs) → Column barOf m (now (points .entry)) (map (lastStroke c) (c .bigs)) → ScansOf c (take n zones) n m r) ⌝ }
 {
-    let m = chart.big_count as usize;
-    let h = chart.superior_count as usize;
-    let bigs = chart.bigs;
     let ways = columns::ways_of(bigs, m);
-    let ranges = levels::ranges_of(chart);
-    let slots = ranges.slots;
     let bars = columns::bars_of(slots, m);
     let starts = bars.starts;
     let ends = bars.ends;
-    let points = columns::points_of(chart);
-    let point_bars = points.bars;
-    let superiors = chart.superiors;
     let superior_ways = columns::ways_of(superiors, h);
-    let superior_ends = columns::superior_ends(superiors, h, &point_bars, m);
+    let superior_ends = columns::superior_ends(superiors, h, points, m);
     let of_zones = zone_scans(
         zones,
         n,
@@ -321,7 +335,7 @@ fn ends_behind(up: bool, after: u32, way: u8, bar: u32) -> bool
 // The place from `from` on of the next big of a direction whose end bar is behind `after`, both counted from 1; m where there is none.
 pub fn next_end(ways: &[u8], bars: &[u32], m: usize, up: bool, after: u32, from: usize) -> usize
     requires { ⌜ (m ≤ length (now ways)) × (m ≤ length (now bars)) ⌝ }
-    ensures { λ r. ⌜ r ≤ m ⌝ }
+    ensures { λ r. ⌜ (r ≤ m) × (r < m → (from ≤ r) × (after < getD (now (bars .entry)) r 0)) ⌝ }
     ensures { λ r. ⌜ ((c : Levels) (bar : ℕ) → Column (λ (t : Triple). t .direction) m (now (ways .entry)) (c .bigs) → Column barOf m (now (bars .entry)) (map (lastStroke c) (c .bigs)) → after ≡ suc bar → NextEnd c up bar m from r) ⌝ }
 {
     let mut k = from;

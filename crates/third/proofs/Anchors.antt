@@ -3,27 +3,24 @@ use Prim.Native.Nat.{ℕ, suc, _+_, _-_, _<_, _≤_}
 use native.Mathlib.Omega.{arith}
 use native.Mathlib.Numerals.{add-one}
 use mathlib.Core.Path.{_≡_, refl, ap, sym, _∙_}
-use mathlib.Core.Bool.{Bool, true, false, not, _&&_, Bool·beq}
+use mathlib.Core.Bool.{Bool, true, false, not}
 use mathlib.Core.List.{List, [], _∷_, _++_, map, append-assoc, append-nil}
 use mathlib.Core.Option.{Option, none, some}
 use lib.ListN.{length, getD, set, take, drop}
 use lib.Seq.{take-suc-set}
-use lib.Dec.{ltb}
 use lib.Ieee.{Float, nan}
-use borrow.Author.Tests.{lt-ltb, le-ltb}
 use Rattle.chart.specs.declared.Stroke.{Stroke}
 use Rattle.chart.specs.declared.Triple.{Triple}
 use Rattle.chart.specs.declared.Ground.the-variants as ground
 use Rattle.chart.specs.declared.ThirdMark.{ThirdMark}
 use Rattle.rules.specs.Lists.{find, collect, each, isNone}
-use Rattle.rules.specs.Records.{isUp, Levels, Quotes}
+use Rattle.rules.specs.Records.{Levels, Quotes}
 use Rattle.rules.specs.Ranges.{lastStroke}
 use Rattle.rules.specs.Marks.{beats, thirdAt, endsAfter, anchorPrice, anchorBars, anchorThird}
 use Rattle.laws.proofs.Arrays.{left-more, left-none}
 use Rattle.columns.specs.Columns.{Column, barOf, Prices}
 use Rattle.columns.proofs.Fill as fill
 use Rattle.scan.specs.Scan.{endsIn, NextEnd}
-use Rattle.scan.proofs.Steps.{ends-here, ends-pass}
 use Rattle.scan.proofs.Columns.{column-via, column-length, column-at, records-none}
 use Rattle.third.specs.declared.Hit.{Hit}
 use Rattle.third.specs.declared.Hit.the-variants.{At, Nothing}
@@ -59,12 +56,6 @@ pub bars-all : (c : Levels) (buy : Bool) (a : Stroke) → anchorBars c buy a ≡
 unfolding anchorBars
 bars-all c buy a = ap (map (λ (s : Stroke). s .«end_bar»)) (ends-all c (not buy) (a .«end_bar»))
 
-beq-not : (x y : Bool) → Bool·beq x (not y) ≡ not (Bool·beq x y)
-beq-not true true = refl
-beq-not true false = refl
-beq-not false true = refl
-beq-not false false = refl
-
 -- the bigs from place k on are left to look at
 module _
     (c : Levels) (beat : ℕ → Bool) (buy : Bool) (a : Stroke) (m after k : ℕ) (ways bars : List ℕ)
@@ -78,45 +69,33 @@ module _
     pub bars-none : m ≤ k → goal ≡ none
     bars-none h = left ∙ ap (λ (bs : List Triple). find beat (barsIn c buy a bs)) (records-none _ m ways (c .bigs) by-way k h)
 
-    module _ (h : k < m) where
-      passed : (Bool·beq (isUp (getD ways k 0)) (not buy) && ltb after (getD bars k 0)) ≡ false → goal ≡ find beat (barsIn c buy a (drop (k + 1) (c .bigs)))
-      passed e = left ∙ ap given (ends-pass c (not buy) (a .«end_bar») m after k k ways bars by-way by-bar behind refl h _ refl e)
+    -- the next of them that ends behind the anchor, and is of the other direction, has place r
+    module _ (r : ℕ) (next : NextEnd c (not buy) (a .«end_bar») m k r) where
+      pub bars-over : m ≤ r → goal ≡ none
+      bars-over h = left ∙ ap given (next .over h)
 
-      -- a big of the side's own direction, and one that ends with the anchor or before it
-      pub bars-along : Bool·beq (isUp (getD ways k 0)) buy ≡ true → goal ≡ find beat (barsIn c buy a (drop (k + 1) (c .bigs)))
-      bars-along e = passed (rw (beq-not (isUp (getD ways k 0)) buy, e))
-
-      pub bars-early : Bool·beq (isUp (getD ways k 0)) buy ≡ false → getD bars k 0 ≤ after → goal ≡ find beat (barsIn c buy a (drop (k + 1) (c .bigs)))
-      bars-early e f = passed (rw (beq-not (isUp (getD ways k 0)) buy, e, le-ltb after (getD bars k 0) f))
-
-      -- a big of the other direction that ends behind the anchor
-      module _ (e : Bool·beq (isUp (getD ways k 0)) buy ≡ false) (f : after < getD bars k 0) where
-        next : NextEnd c (not buy) (a .«end_bar») m k k
-        next =
-            ends-here c (not buy) (a .«end_bar») m after k k ways bars by-way by-bar behind refl h _ refl
-            (rw (beq-not (isUp (getD ways k 0)) buy, e, lt-ltb after (getD bars k 0) f))
-
+      module _ (h : r < m) where
         abbrev s : Stroke
         s = next .next h .0
 
-        end-at : getD bars k 0 ≡ suc (s .«end_bar»)
-        end-at = fill.column-at barOf m k bars (map (lastStroke c) (c .bigs)) 0 (some s) by-bar h (next .next h .1)
+        end-at : getD bars r 0 ≡ suc (s .«end_bar»)
+        end-at = fill.column-at barOf m r bars (map (lastStroke c) (c .bigs)) 0 (some s) by-bar h (next .next h .1)
 
-        more : goal ≡ find beat (s .«end_bar» ∷ barsIn c buy a (drop (k + 1) (c .bigs)))
-        more = left ∙ ap given (next .next h .2) ∙ rw (add-one k)
+        more : goal ≡ find beat (s .«end_bar» ∷ barsIn c buy a (drop (r + 1) (c .bigs)))
+        more = left ∙ ap given (next .next h .2) ∙ rw (add-one r)
 
         module _
-            (bar : ℕ) (is : bar ≡ getD bars k 0 - 1) (hit : Hit) (tried : find beat (bar ∷ []) ≡ hitBar hit) (t : Bool)
+            (bar : ℕ) (is : bar ≡ getD bars r 0 - 1) (hit : Hit) (tried : find beat (bar ∷ []) ≡ hitBar hit) (t : Bool)
             (test : t ≡ not (isNone (hitBar hit)))
           where
             same : bar ≡ s .«end_bar»
             same = omega (arith, is, end-at)
 
             pub bars-hit : t ≡ true → goal ≡ hitBar hit
-            bars-hit g = more ∙ hit-first beat (s .«end_bar») (barsIn c buy a (drop (k + 1) (c .bigs))) hit (rw same at tried) t test g
+            bars-hit g = more ∙ hit-first beat (s .«end_bar») (barsIn c buy a (drop (r + 1) (c .bigs))) hit (rw same at tried) t test g
 
-            pub bars-missed : t ≡ false → goal ≡ find beat (barsIn c buy a (drop (k + 1) (c .bigs)))
-            bars-missed g = more ∙ hit-later beat (s .«end_bar») (barsIn c buy a (drop (k + 1) (c .bigs))) hit (rw same at tried) t test g
+            pub bars-missed : t ≡ false → goal ≡ find beat (barsIn c buy a (drop (r + 1) (c .bigs)))
+            bars-missed g = more ∙ hit-later beat (s .«end_bar») (barsIn c buy a (drop (r + 1) (c .bigs))) hit (rw same at tried) t test g
 
 -- ---- the mark of one anchor
 

@@ -1,16 +1,15 @@
 -- The call on a chart: refused with 21, with 8 or 1, with 11, or given the marks of its zones and anchors. Assumes nothing.
 use Prim.Native.Nat.{ℕ, zero, suc, _<_, _≤_}
 use native.Mathlib.Omega.{arith}
-use mathlib.Core.Path.{_≡_, refl, sym, ap, _∙_}
+use mathlib.Core.Path.{_≡_, refl, sym, subst, _∙_}
 use mathlib.Core.Bool.{Bool, true, false, not, cond, true≢false}
-use mathlib.Core.List.{List, [], _∷_, _++_, foldl}
+use mathlib.Core.List.{List, [], _∷_, _++_, foldl, append-nil}
 use lib.ListN.{length, getD, take, length-take}
 use lib.Seq.{take-all}
 use lib.Dec.{eqb, leb, ltb}
 use lib.Ieee.{Float}
 use borrow.Author.Tests.{eqb-true, ltb-false, lt-leb, eq-eqb, ne-eqb}
 use Rattle.chart.specs.declared.Triple.{Triple}
-use Rattle.chart.specs.declared.Stroke.{Stroke}
 use Rattle.chart.specs.declared.Zone.{Zone}
 use Rattle.chart.specs.declared.ThirdMark.{ThirdMark}
 use Rattle.chart.specs.declared.Chart.{Chart}
@@ -63,80 +62,45 @@ quotes-fit highs lows e =
     let few = ltb-false 0x1_0000 (length highs) (or-r (unequal q) (ltb 0x1_0000 (length highs)) bad) in
     (few, omega arith)
 
--- ---- the call, by the answer of the zone call
+-- ---- the call
 
-module _ (c : Chart) (q : Quotes) (n count : ℕ) (rows : List Zone) (e : rowsAnswer n count rows ≡ zonesCall c) where
+pub third-bad : (c : Chart) (q : Quotes) → badChart c ≡ true → refused 21 ≡ thirdCall c q
+unfolding thirdCall
+third-bad c q b = sym (on-bad c _ b)
+
+module _ (c : Chart) (q : Quotes) (good : badChart c ≡ false) where
   abbrev l : Levels
   l = levelsOf c
 
-  found-bad : badChart c ≡ true → rowsAnswer n count rows ≡ answered 21 []
-  unfolding zonesCall answered
-  found-bad b = e ∙ on-bad c _ b
-
-  found-good : badChart c ≡ false → rowsAnswer n count rows ≡ answered (zonesRefusal l) (overlapZones l)
-  unfolding zonesCall
-  found-good b = e ∙ on-good c _ b
-
-  third-good : badChart c ≡ false → answered (quotesRefusal q (zonesRefusal l)) (thirdMarks l q) ≡ thirdCall c q
+  third-good : answered (quotesRefusal q (zonesRefusal l)) (thirdMarks l q) ≡ thirdCall c q
   unfolding thirdCall thirdRefusal
-  third-good b = sym (on-good c _ b)
+  third-good = sym (on-good c _ good)
 
-  -- the zone call is refused with 21 where the chart is, and only there
-  bad-number : badChart c ≡ true → n ≡ 21
-  bad-number b = go n refl
-    where
-      go : (k : ℕ) → n ≡ k → k ≡ 21
-      go zero f =
-          let z : _≡_ {A = ℕ} 21 0 = rows-given count rows 21 [] (rw f at (found-bad b)) .accepted in
-          absurd (omega arith)
-      go (suc k) f = sym (rows-refused count rows 21 [] (suc k) (λ h. absurd (omega arith)) (rw f at (found-bad b)))
+  pub third-quotes : (k : ℕ) → k ≡ quotesRefusal q 0 → (k ≡ 0 → ⊥) → refused k ≡ thirdCall c q
+  third-quotes k f h =
+      sym (answered-refused (quotesRefusal q (zonesRefusal l)) k (thirdMarks l q) h (quotes-first q (zonesRefusal l) k f h)) ∙ third-good
 
-  pub third-ok : (n ≡ 21 → ⊥) → badChart c ≡ false
-  third-ok h = go (badChart c) refl
-    where
-      go : (t : Bool) → badChart c ≡ t → t ≡ false
-      go true b = absurd (h (bad-number b))
-      go false b = refl
+  -- by the answer of the zone call
+  module _ (n count : ℕ) (rows : List Zone) (e : rowsAnswer n count rows ≡ zonesCall c) (f : 0 ≡ quotesRefusal q 0) where
+    found-good : rowsAnswer n count rows ≡ answered (zonesRefusal l) (overlapZones l)
+    unfolding zonesCall
+    found-good = e ∙ on-good c _ good
 
-  not-21 : zonesRefusal l ≡ 21 → ⊥
-  unfolding zonesRefusal refuse
-  not-21 = go (ltb 256 (length (overlapZones l)))
-    where
-      go : (t : Bool) → refuse t 11 0 ≡ 21 → ⊥
-      go true f = absurd (omega arith)
-      go false f = absurd (omega arith)
-
-  pub third-bad : n ≡ 21 → refused 21 ≡ thirdCall c q
-  unfolding thirdCall
-  third-bad h = go (badChart c) refl
-    where
-      go : (t : Bool) → badChart c ≡ t → refused 21 ≡ thirdCall c q
-      go true b = sym (on-bad c _ b)
-      go false b = absurd (not-21 (rows-refused count rows (zonesRefusal l) (overlapZones l) 21 (λ z. absurd (omega arith)) (rw h at (found-good b))))
-
-  pub third-quotes : (k : ℕ) → (n ≡ 21 → ⊥) → k ≡ quotesRefusal q 0 → (k ≡ 0 → ⊥) → refused k ≡ thirdCall c q
-  third-quotes k o f h =
-      sym (answered-refused (quotesRefusal q (zonesRefusal l)) k (thirdMarks l q) h (quotes-first q (zonesRefusal l) k f h)) ∙ third-good (third-ok o)
-
-  module _ (o : n ≡ 21 → ⊥) (f : 0 ≡ quotesRefusal q 0) where
     pub third-many : (n ≡ 0 → ⊥) → refused n ≡ thirdCall c q
     third-many h =
-        let r = rows-refused count rows (zonesRefusal l) (overlapZones l) n h (found-good (third-ok o)) in
-        sym (answered-refused (quotesRefusal q (zonesRefusal l)) n (thirdMarks l q) h (quotes-pass q (zonesRefusal l) f ∙ r)) ∙ third-good (third-ok o)
+        let r = rows-refused count rows (zonesRefusal l) (overlapZones l) n h found-good in
+        sym (answered-refused (quotesRefusal q (zonesRefusal l)) n (thirdMarks l q) h (quotes-pass q (zonesRefusal l) f ∙ r)) ∙ third-good
 
     module _ (h : n ≡ 0) where
       given-zones : Rows count rows (zonesRefusal l) (overlapZones l)
-      given-zones = rows-given count rows (zonesRefusal l) (overlapZones l) (rw h at (found-good (third-ok o)))
-
-      pub zones-few : count ≤ length rows
-      zones-few = given-zones .few
+      given-zones = rows-given count rows (zonesRefusal l) (overlapZones l) (rw h at found-good)
 
       pub zones-are : take count rows ≡ overlapZones l
       zones-are = given-zones .same
 
       pub third-given : given (thirdMarks l q) ≡ thirdCall c q
       unfolding answered
-      third-given = rw (← third-good (third-ok o), quotes-pass q (zonesRefusal l) f, given-zones .accepted)
+      third-given = rw (← third-good, quotes-pass q (zonesRefusal l) f, given-zones .accepted)
 
 -- ---- the marks
 
@@ -180,3 +144,24 @@ pub marks-are :
     → foldl addThird [] found ≡ thirdMarks c q
 unfolding thirdMarks
 marks-are c q zs found anchored e f g = rw (f, g, e)
+
+-- the marks of the anchors, by the first superior s
+pub anchors-by :
+    (c : Levels) (q : Quotes) (h : ℕ) (superiors : List Triple) (d : Triple) (k : ℕ) (s : Triple) → take h superiors ≡ c .superiors → 0 < length superiors
+    → s ≡ getD superiors 0 d → take k (c .bigs) ≡ cond (eqb h 0) [] (take (s .first) (c .bigs))
+    → each (anchorThird c q (isUp (s .direction))) (collect (lastStroke c) (take k (c .bigs)))
+    ≡ each (anchorThird c q (anchorSide (c .superiors))) (anchorsOf c (c .superiors))
+anchors-by c q h superiors d k s e l same =
+    subst
+    (λ (t : Triple). take k (c .bigs) ≡ cond (eqb h 0) [] (take (t .first) (c .bigs)) → each (anchorThird c q (isUp (t .direction))) (collect (lastStroke c) (take k (c .bigs))) ≡ each (anchorThird c q (anchorSide (c .superiors))) (anchorsOf c (c .superiors)))
+    (sym same)
+    (anchors-are c q h superiors (c .superiors) d k e l)
+
+-- no big is an anchor
+pub marks-alone :
+    (c : Levels) (q : Quotes) (zs : List Zone) (found : List ThirdMark) (buy : Bool) (k : ℕ) → zs ≡ overlapZones c
+    → found ≡ each (zoneThird c q zs) zs → k ≡ 0
+    → each (anchorThird c q buy) (collect (lastStroke c) (take k (c .bigs))) ≡ each (anchorThird c q (anchorSide (c .superiors))) (anchorsOf c (c .superiors))
+    → foldl addThird [] found ≡ thirdMarks c q
+marks-alone c q zs found buy k e f none g =
+    marks-are c q zs found [] e (f ∙ sym (append-nil (each (zoneThird c q zs) zs))) (rw none at g)

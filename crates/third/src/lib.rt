@@ -12,7 +12,7 @@ ghost use mathlib.Core.Bool.{Bool, false, not, cond};
 ghost use mathlib.Core.List.{List, [], _∷_, _++_, map, foldl};
 ghost use mathlib.Core.Option.{some};
 ghost use Prim.Native.Nat.{ℕ, suc, _≤_, _<_};
-ghost use lib.ListN.{length, take, drop};
+ghost use lib.ListN.{length, take, drop, getD};
 ghost use lib.Dec.{eqb};
 ghost use lib.Ieee.{lt};
 ghost use Rattle.chart.specs.declared.Triple.{Triple};
@@ -20,21 +20,21 @@ ghost use Rattle.chart.specs.declared.Stroke.{Stroke};
 ghost use Rattle.chart.specs.declared.ThirdMark.{ThirdMark};
 ghost use Rattle.rules.specs.Answer.{rowsAnswer, given, refused};
 ghost use Rattle.rules.specs.Lists.{find, any, each, collect, isNone};
-ghost use Rattle.rules.specs.Records.{isUp, Levels, levelsOf, Quotes};
+ghost use Rattle.rules.specs.Records.{isUp, Levels, Quotes};
 ghost use Rattle.rules.specs.Ranges.{rangeOf, lastStroke};
 ghost use Rattle.rules.specs.Zones.{overlapZones};
 ghost use Rattle.rules.specs.Marks.{beats, pairEnds, zoneThird, anchorPrice, anchorBars, anchorThird, addThird, thirdMarks};
-ghost use Rattle.rules.specs.Refusals.{badChart};
 ghost use Rattle.rules.specs.Calls.{thirdCall};
 ghost use Rattle.columns.specs.Columns.{Column, endOf, barOf, Prices};
 ghost use Rattle.scan.specs.Scan.{reached, ScansOf, endsIn};
 ghost use Rattle.third.specs.Third.{hitBar, Priced, priceOf, Holds, keyOf};
 
-// The answer of the third-mark call: a number, and where it is 0 the first `count` rows.
+// The answer of the third-mark call: a number, and where it is 0 the first `count` rows. The rows stand first: behind the numbers they
+// would have a gap before them, and the compiler would then copy them once more.
 pub struct ThirdRows {
+    pub rows: [ThirdMark; 512],
     pub number: u8,
     pub count: u16,
-    pub rows: [ThirdMark; 512],
 }
 
 // ---- hits
@@ -125,8 +125,8 @@ fn edge_of(d: u8, z: Zone) -> f64
 
 // Marks, in the first `count` rows.
 struct Found {
-    count: usize,
     rows: [ThirdMark; 512],
+    count: usize,
 }
 
 // The marks of the first n zones, in order, with repeats.
@@ -213,19 +213,15 @@ fn anchor_hit(
 {
     let mut k = 0usize;
     while k < m {
-        let way = ways[k];
-        let bar = bars[k];
-        k += 1;
-        if (way == 1) == buy {
-            continue;
+        let at = scan::next_end(ways, bars, m, !buy, after, k);
+        if m <= at {
+            return Hit::Nothing;
         }
-        if bar <= after {
-            continue;
-        }
-        let hit = hit_at(highs, lows, buy, p, scan::bar_at(bar));
+        let hit = hit_at(highs, lows, buy, p, scan::bar_at(bars[at]));
         if is_hit(hit) {
             return hit;
         }
+        k = at + 1;
     }
     Hit::Nothing
 }
@@ -243,6 +239,7 @@ fn anchor_marks(
     lows: &[f64],
 ) -> Found
     requires { ⌜ (found .count ≤ 256) × (n ≤ m) × (m ≤ 256) × (m ≤ length (now ways)) × (m ≤ length (now bars)) × (m ≤ length (now prices)) × (length (now highs) ≤ 65536) × (length (now lows) ≤ 65536) ⌝ }
+    ensures { λ r. ⌜ r .count ≤ 512 ⌝ }
     ensures { λ r. ⌜ ((c : Levels) (l : List ThirdMark) → Column (λ (t : Triple). t .direction) m (now (ways .entry)) (c .bigs) → Column barOf m (now (bars .entry)) (map (lastStroke c) (c .bigs)) → Prices (now (prices .entry)) (map (lastStroke c) (c .bigs)) → Holds found l → Holds r (l ++ each (anchorThird c (record { highs = now (highs .entry); lows = now (lows .entry) }) buy) (collect (lastStroke c) (take n (c .bigs))))) ⌝ }
 {
     let mut rows = found.rows;
@@ -360,40 +357,72 @@ fn anchor_count(h: u16, s: Triple, m: usize) -> usize
     if first < m { first } else { m }
 }
 
-// The third marks of a chart whose zones are the first n of these.
-fn marks_of(chart: Chart, zones: [Zone; 256], n: usize, highs: &[f64], lows: &[f64]) -> ThirdRows
-    requires { ⌜ badChart chart ≡ false ⌝ }
-    requires { ⌜ (n ≤ 256) × (take n zones ≡ overlapZones (levelsOf chart)) × (length (now highs) ≤ 65536) × (length (now lows) ≤ 65536) ⌝ }
-    ensures { λ r. ⌜ rowsAnswer (r .number) (r .count) (r .rows) ≡ given (thirdMarks (levelsOf chart) (record { highs = now (highs .entry); lows = now (lows .entry) })) ⌝ }
+// The third marks of a chart whose zones are the first n of these and whose scans are given, with m bigs, of which the end points are
+// lent, and h superiors, of which s is the first. Where there is no anchor, the rows of the zones are not copied for anchors.
+fn marks_of(
+    zones: [Zone; 256],
+    n: usize,
+    scans: Scans,
+    m: usize,
+    bars: &[u32],
+    prices: &[f64],
+    h: u16,
+    s: Triple,
+    highs: &[f64],
+    lows: &[f64],
+) -> ThirdRows
+    requires { ⌜ (n ≤ 256) × (m ≤ 256) × (m ≤ length (now bars)) × (m ≤ length (now prices)) × (length (now highs) ≤ 65536) × (length (now lows) ≤ 65536) ⌝ }
+    ensures { λ r. ⌜ ((c : Levels) (sups : List Triple) (d : Triple) → ScansOf c (take n zones) n m scans → take n zones ≡ overlapZones c → length (c .bigs) ≡ m → Column barOf m (now (bars .entry)) (map (lastStroke c) (c .bigs)) → Prices (now (prices .entry)) (map (lastStroke c) (c .bigs)) → take h sups ≡ c .superiors → 0 < length sups → s ≡ getD sups 0 d → rowsAnswer (r .number) (r .count) (r .rows) ≡ given (thirdMarks c (record { highs = now (highs .entry); lows = now (lows .entry) }))) ⌝ }
 {
-    let m = chart.big_count as usize;
-    let scans = scan::scans_of(chart, zones, n);
     let found = zone_marks(zones, n, scans, m, highs, lows);
-    let points = columns::points_of(chart);
-    let bars = points.bars;
-    let prices = points.prices;
+    let k = anchor_count(h, s, m);
+    if k == 0 {
+        return unique(found);
+    }
     let ways = scans.ways;
-    let s = chart.superiors[0];
-    let k = anchor_count(chart.superior_count, s, m);
     let buy = s.direction == 1;
-    unique(anchor_marks(found, k, &ways, &bars, &prices, m, buy, highs, lows))
+    unique(anchor_marks(found, k, &ways, bars, prices, m, buy, highs, lows))
 }
 
-// The third marks of a chart's overlap zones and anchors: 21, then 8, 1, and 11 where there are more than 256 zones.
+// The third marks of a chart's overlap zones and anchors: 21, then 8, 1, and 11 where there are more than 256 zones. The ranges and end
+// points of the bigs are worked out once, for the zones and for the marks.
 pub fn bigseg_third_marks_all_zhongshu(chart: Chart, highs: &[f64], lows: &[f64]) -> ThirdRows
     ensures { λ r. ⌜ rowsAnswer (r .number) (r .count) (r .rows) ≡ thirdCall chart (record { highs = now (highs .entry); lows = now (lows .entry) }) ⌝ }
 {
-    let found = zones::detect_bigseg_zhongshus_by_overlap(chart);
-    if found.number == 21 {
+    if levels::bad_chart(chart) {
         return refusal(21);
     }
     let number = scan::quotes_refusal(highs, lows);
     if number != 0 {
         return refusal(number);
     }
+    let m = chart.big_count as usize;
+    let h = chart.superior_count as usize;
+    let ranges = levels::ranges_of(chart);
+    let slots = ranges.slots;
+    let superiors = chart.superiors;
+    let bigs = chart.bigs;
+    let found = zones::overlap(superiors, h, bigs, m, slots);
     if found.number != 0 {
         return refusal(found.number);
     }
-    let rows = found.rows;
-    marks_of(chart, rows, found.count as usize, highs, lows)
+    let n = found.count as usize;
+    let zones = found.rows;
+    let points = columns::points_of(chart);
+    let bars = points.bars;
+    let prices = points.prices;
+    let scans = scan::scans_of(bigs, slots, &bars, m, superiors, h, zones, n);
+    let s = superiors[0];
+    marks_of(
+        zones,
+        n,
+        scans,
+        m,
+        &bars,
+        &prices,
+        chart.superior_count,
+        s,
+        highs,
+        lows,
+    )
 }

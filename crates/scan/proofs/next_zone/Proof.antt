@@ -1,5 +1,5 @@
 -- `scan::next_zone` meets its contract. Assumes nothing.
-use Prim.Native.Nat.{ℕ, _-_, _≤_}
+use Prim.Native.Nat.{ℕ, suc, _+_, _-_, _≤_}
 use native.Mathlib.Omega.{arith}
 use mathlib.Core.Path.{_≡_, _∙_}
 use mathlib.Core.Bool.{_||_}
@@ -16,15 +16,15 @@ use Rattle.scan.proofs.next_zone.Tie as tie
 
 abbrev Inv-loop : tie.InvT-loop
 Inv-loop owners starts n h e least₀ i₀ least i =
-    (i ≤ n) × (least ≤ 0x1_0000)
+    (i ≤ n)
     × ((zs : List Zone) (z : Zone) → Column (λ (y : Zone). y .«sup_idx») n owners zs → Column (λ (y : Zone). y .«start_bar») n starts zs → z .«sup_idx» ≡ h
-    → z .«end_bar» ≡ e → (bar : ℕ) → (near least bar || any (passes z bar) (drop i zs)) ≡ reachesZone zs z bar)
+    → z .«end_bar» ≡ e → (bar : ℕ) → (near (least + suc (z .«end_bar»)) bar || any (passes z bar) (drop i zs)) ≡ reachesZone zs z bar)
 
 abbrev μ-loop : tie.MeasureT-loop
 μ-loop owners starts n h e least₀ i₀ least i = n - i
 
 loop-holds : tie.Need-loop-holds Inv-loop μ-loop
-loop-holds c = (omega arith, omega arith, λ zs z o s h e bar. zone-first zs z bar)
+loop-holds c = (omega arith, λ zs z o s h e bar. zone-first zs z bar)
 
 mul-offered : tie.Need-mul-offered Inv-loop μ-loop
 mul-offered c = search needs
@@ -41,8 +41,8 @@ shared-slice-read-offered-2 c = search needs
 offered-requires : tie.Need-offered-requires Inv-loop μ-loop
 offered-requires c κs = search needs
 
-nearer-requires : tie.Need-nearer-requires Inv-loop μ-loop
-nearer-requires c κs = search needs
+sooner-requires : tie.Need-sooner-requires Inv-loop μ-loop
+sooner-requires c κs = search needs
 
 add-i : tie.Need-add-i Inv-loop μ-loop
 add-i c = search needs
@@ -57,24 +57,32 @@ loop-again c =
     let inv = head .loop .inv in
     let got = c .before .offered .ensures in (
       omega arith,
-      omega (arith, c .nearer .ensures, inv .1),
       λ zs z o s h e bar.
-          rw (c .nearer .ensures)
-          (zone-next _ _ _ zs z o s _ (head .loop .i) bar (inv .2 zs z o s h e bar) _ (in-loop .loop-test .taken) (inv .1) (got .2) (rw (h, e) (got .0))),
+          rw (c .sooner .ensures)
+          (zone-next _ _ _ zs z o s _ (head .loop .i) bar (inv .1 zs z o s h e bar) _ (in-loop .loop-test .taken) (rw e (got .2)) (got .1) (rw (h, e) (got .0))),
     )
+
+sub-if1 : tie.Need-sub-if1 Inv-loop μ-loop
+sub-if1 c = search needs
+
+cast-result : tie.Need-cast-result Inv-loop μ-loop
+cast-result c = search needs
 
 add-result : tie.Need-add-result Inv-loop μ-loop
 add-result c = search needs
 
+add-result-2 : tie.Need-add-result-2 Inv-loop μ-loop
+add-result-2 c = search needs
+
 returns : tie.Need-returns Inv-loop μ-loop
 returns c =
     let head = c .before .before in
-    λ zs z o s h e bar. reached-none _ bar (c .if1 .taken) ∙ zone-none _ _ _ zs z o s (head .loop .least) (head .loop .i) bar (head .loop .inv .2 zs z o s h e bar) (c .before .loop-test .left)
+    λ zs z o s h e bar. reached-least (head .loop .least) _ _ bar e (c .if1 .taken) ∙ zone-none _ _ _ zs z o s (head .loop .least) (head .loop .i) bar (head .loop .inv .1 zs z o s h e bar) (c .before .loop-test .left)
 
 returns-2 : tie.Need-returns-2 Inv-loop μ-loop
 returns-2 c =
     let head = c .before .before in
-    λ zs z o s h e bar. reached-least _ bar (head .loop .inv .1) (c .if1 .left) ∙ zone-none _ _ _ zs z o s (head .loop .least) (head .loop .i) bar (head .loop .inv .2 zs z o s h e bar) (c .before .loop-test .left)
+    λ zs z o s h e bar. reached-none (head .loop .least) _ _ bar e (c .if1 .left) ∙ zone-none _ _ _ zs z o s (head .loop .least) (head .loop .i) bar (head .loop .inv .1 zs z o s h e bar) (c .before .loop-test .left)
 
 pub next-zone-spec : {M : Type 1} → statement M
 next-zone-spec =
@@ -88,10 +96,13 @@ next-zone-spec =
     mul-offered-2
     shared-slice-read-offered-2
     offered-requires
-    nearer-requires
+    sooner-requires
     add-i
     loop-less
     loop-again
+    sub-if1
+    cast-result
     add-result
+    add-result-2
     returns
     returns-2)

@@ -157,14 +157,16 @@ returns c =
     let head = c .before in
     let start = head .before .before .before .before .before .before .before in
     let inv = head .loop .inv in
-    let args = start .args in
-    λ l f w b p h.
-    record {
-      few = omega (arith, inv, start .pre);
-      are =
-          anchors-all l (quotes start) (args .buy) _ _ (head .loop .i) _ b (start .pre .1) (head .loop .rows) (head .loop .count) _ (inv .3 l w b p) (c .loop-test .left)
-          ∙ ap (λ (f : List ThirdMark). f ++ marksIn l (quotes start) (args .buy) (take (args .n) (l .bigs))) (h .are);
-    }
+    let args = start .args in (
+      omega (arith, inv, start .pre),
+      λ l f w b p h.
+          record {
+            few = omega (arith, inv, start .pre);
+            are =
+                anchors-all l (quotes start) (args .buy) _ _ (head .loop .i) _ b (start .pre .1) (head .loop .rows) (head .loop .count) _ (inv .3 l w b p) (c .loop-test .left)
+                ∙ ap (λ (f : List ThirdMark). f ++ marksIn l (quotes start) (args .buy) (take (args .n) (l .bigs))) (h .are);
+          },
+    )
 
 pub anchor-marks-spec : {M : Type 1} → statement M
 anchor-marks-spec =
