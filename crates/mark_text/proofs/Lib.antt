@@ -1,0 +1,4 @@
+-- Laws that the proofs cite. Each function has its proof in the folder of its name.
+pub mod Written
+pub mod Digits
+pub mod Lines

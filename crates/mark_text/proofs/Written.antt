@@ -1,0 +1,82 @@
+-- A buffer into which bytes are put, one part behind the other. Assumes nothing.
+use Prim.Native.Nat.{ℕ, _+_, _-_, _≤_, _<_}
+use native.Mathlib.Omega.{arith}
+use mathlib.Core.Path.{_≡_, refl, sym, _∙_}
+use mathlib.Core.List.{List, [], _∷_, _++_, append-assoc, append-nil}
+use lib.ListN.{length, take, drop, set, replicate, length-append, length-take, length-drop, length-set, length-replicate}
+use lib.Seq.{length-take-le, take-length, take-at}
+use borrow.Rule.Slice.PartMut.{putMid}
+use Rattle.laws.proofs.Arrays.{one-more}
+use Rattle.mark_text.specs.Puts.{Puts}
+
+-- a buffer into which nothing is put yet
+abbrev pub fresh : List ℕ
+fresh = replicate 24576 0
+
+pub length-fresh : length fresh ≡ 24576
+length-fresh = length-replicate {A = ℕ} 24576 0
+
+-- no bytes, and one
+pub put-none : (old : List ℕ) (at : ℕ) → Puts old at [] old at
+put-none old at = record { text = sym (append-nil (take at old)); place = omega arith; long = refl }
+
+pub put-one : (old : List ℕ) (at b : ℕ) → at < length old → Puts old at (b ∷ []) (set old at b) (at + 1)
+put-one old at b h = record { text = one-more old at b h; place = refl; long = length-set old at b }
+
+-- a word that is copied to the start of the part from place `at` on, which is lent
+pub put-part :
+    (old part word : List ℕ) (at n : ℕ) → at + length word ≤ length old → n ≡ length word
+    → part ≡ take (length word) word ++ drop (length word) (take (length old - at) (drop at old))
+    → Puts old at word (putMid at (length old - at) old part) (at + n)
+put-part old part word at n h e p =
+    let rest = drop (length word) (take (length old - at) (drop at old)) in
+    let behind = drop (length old - at) (drop at old) in
+    let before = length-take-le at old (omega arith) in
+    let size : length (take at old ++ word) ≡ at + length word = omega (arith, length-append (take at old) word) in
+    record {
+      text =
+          rw (e, p, take-length word, append-assoc word rest behind, ← append-assoc (take at old) word (rest ++ behind))
+          (take-at (take at old ++ word) (rest ++ behind) (at + length word) size);
+      place = omega arith;
+      long =
+          rw (p, take-length word)
+          (omega (
+            arith,
+            length-append (take at old) ((word ++ rest) ++ behind),
+            length-append (word ++ rest) behind,
+            length-append word rest,
+            length-drop (length word) (take (length old - at) (drop at old)),
+            length-take (length old - at) (drop at old),
+            length-drop at old,
+            length-drop (length old - at) (drop at old),
+          ));
+    }
+
+-- some bytes, and then some behind them
+pub put-on :
+    {old mid new : List ℕ} {at place end : ℕ} (first more : List ℕ) → Puts old at first mid place → Puts mid place more new end
+    → Puts old at (first ++ more) new end
+put-on {old} {at = at} first more p q =
+    record {
+      text = q .text ∙ rw (p .text, append-assoc (take at old) first more);
+      place = omega (arith, p .place, q .place, length-append first more);
+      long = q .long ∙ p .long;
+    }
+
+-- ---- a text of bounded length, one part behind the other
+
+-- some bytes that are put, no more than k
+pub record Part (old : List ℕ) (at k : ℕ) (bytes new : List ℕ) (end : ℕ) : Type 0 where
+  pub puts : Puts old at bytes new end
+  pub few : length bytes ≤ k
+
+pub part-on :
+    {old mid new : List ℕ} {at k place end : ℕ} (m : ℕ) (first more : List ℕ) → Part old at k first mid place → Puts mid place more new end
+    → length more ≤ m → Part old at (k + m) (first ++ more) new end
+part-on m first more p q h =
+    record { puts = put-on first more (p .puts) q; few = let f = p .few in omega (arith, length-append first more) }
+
+-- there is room for more behind it
+pub part-room :
+    {old new : List ℕ} {at k end : ℕ} (m : ℕ) (first : List ℕ) → Part old at k first new end → at + (k + m) ≤ length old → end + m ≤ length new
+part-room m first p h = let f = p .few in let place = p .puts .place in let long = p .puts .long in omega arith

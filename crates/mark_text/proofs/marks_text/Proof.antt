@@ -1,0 +1,103 @@
+-- `mark_text::marks_text` meets its contract. The invariant: what is put, with the lines that are left behind it, is the wanted text.
+-- Assumes nothing.
+use Prim.Native.Nat.{_+_, _-_, _*_, _≤_}
+use native.Mathlib.Omega.{arith}
+use mathlib.Core.Path.{_≡_, _∙_}
+use mathlib.Core.List.{_++_}
+use lib.ListN.{length, take, drop}
+use borrow.Author.Needs.{needs}
+use Rattle.rules.specs.Lists.{each}
+use Rattle.rules.specs.Text.{ascii, markLine, marksText}
+use Rattle.mark_text.proofs.Written.{length-fresh}
+use Rattle.mark_text.proofs.Lines.{header, price-next, line-next, line-none}
+use Rattle.mark_text.proofs.marks_text.Statement.{statement}
+use Rattle.mark_text.proofs.marks_text.Tie as tie
+
+abbrev Inv-loop : tie.InvT-loop
+Inv-loop n rows bytes₀ end₀ i₀ bytes end i =
+    (i ≤ n) × (length bytes ≡ 24576) × (end ≤ 21 + 39 * i) × (take end bytes ++ each markLine (drop i (take n rows)) ≡ marksText (take n rows))
+
+abbrev μ-loop : tie.MeasureT-loop
+μ-loop n rows bytes₀ end₀ i₀ bytes end i = n - i
+
+long : (c : tie.Start Inv-loop μ-loop) → c .args .n ≤ length (c .args .t1)
+long c = omega arith
+
+slice-aggregate-put-word : tie.Need-slice-aggregate-put-word Inv-loop μ-loop
+slice-aggregate-put-word c = search needs
+
+slice-aggregate-put-word-2 : tie.Need-slice-aggregate-put-word-2 Inv-loop μ-loop
+slice-aggregate-put-word-2 c = search needs
+
+put-word-requires : tie.Need-put-word-requires Inv-loop μ-loop
+put-word-requires c κs = search needs
+
+loop-holds : tie.Need-loop-holds Inv-loop μ-loop
+unfolding ascii
+loop-holds c =
+    let put = c .before .put-word .ensures in
+    let start = c .before .before .before .before in
+    let (few, text) = header (take (start .args .n) (start .args .t1)) put in
+    (omega arith, put .long ∙ length-fresh, omega arith, text)
+
+cast-m : tie.Need-cast-m Inv-loop μ-loop
+cast-m c = search needs
+
+mul-m : tie.Need-mul-m Inv-loop μ-loop
+mul-m c = search needs
+
+array-copy-out-m : tie.Need-array-copy-out-m Inv-loop μ-loop
+array-copy-out-m c = search needs
+
+slice-aggregate-put-line : tie.Need-slice-aggregate-put-line Inv-loop μ-loop
+slice-aggregate-put-line c = search needs
+
+put-line-requires : tie.Need-put-line-requires Inv-loop μ-loop
+put-line-requires c κs =
+    let turn = c .before .before in
+    let head = turn .before in
+    let start = head .before .before .before .before .before in
+    (price-next _ _ _ (long start) _ (turn .loop-test .taken) (start .pre .1), omega arith)
+
+add-i : tie.Need-add-i Inv-loop μ-loop
+add-i c = search needs
+
+loop-less : tie.Need-loop-less Inv-loop μ-loop
+loop-less c = search needs
+
+loop-again : tie.Need-loop-again Inv-loop μ-loop
+loop-again c =
+    let put = c .before .put-line .ensures in
+    let turn = c .before .before .before .before in
+    let head = turn .before in
+    let start = head .before .before .before .before .before in
+    let inv = head .loop .inv in
+    let more = turn .loop-test .taken in
+    (omega arith, put .0 .long ∙ inv .1, omega (arith, put .1, inv .2), line-next _ _ _ (long start) _ more (inv .3) (put .0))
+
+returns : tie.Need-returns Inv-loop μ-loop
+returns c =
+    let head = c .before in
+    let start = head .before .before .before .before .before in
+    let inv = head .loop .inv in
+    (line-none _ _ _ (long start) (c .loop-test .left) (inv .3), omega (arith, inv .0, inv .2))
+
+pub marks-text-spec : {M : Type 1} → statement M
+marks-text-spec =
+    tie.close
+    (tie.spec
+    Inv-loop
+    μ-loop
+    slice-aggregate-put-word
+    slice-aggregate-put-word-2
+    put-word-requires
+    loop-holds
+    cast-m
+    mul-m
+    array-copy-out-m
+    slice-aggregate-put-line
+    put-line-requires
+    add-i
+    loop-less
+    loop-again
+    returns)

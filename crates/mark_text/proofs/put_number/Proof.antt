@@ -1,0 +1,22 @@
+-- `mark_text::put_number` meets its contract. Assumes nothing.
+use borrow.Author.Needs.{needs}
+use Rattle.mark_text.proofs.Written.{put-on}
+use Rattle.mark_text.proofs.put_number.Statement.{statement}
+use Rattle.mark_text.proofs.put_number.Tie as tie
+
+put-decimal-requires : tie.Need-put-decimal-requires
+put-decimal-requires c κs = search needs
+
+put-requires : tie.Need-put-requires
+put-requires c κs = search needs
+
+same-length : tie.Need-same-length
+same-length c = search needs
+
+returns : tie.Need-returns
+returns c =
+    let put = c .before .before in
+    put-on _ _ (put .before .before .before .before .put-decimal .ensures) (put .put .ensures)
+
+pub put-number-spec : {M : Type 1} → statement M
+put-number-spec = tie.close (tie.spec put-decimal-requires put-requires same-length returns)
