@@ -1,4 +1,4 @@
-// The rows of `report`, written to standard output. Of printing only safety is proved.
+// The rows of `report`, some of them lines of `replay` too, written to standard output. Of printing only safety is proved.
 use chart::Class;
 use chart::FirstMark;
 use chart::Ground;
@@ -14,7 +14,7 @@ fn digit(n: u64) -> u8 {
 }
 
 // A price's bits as 16 digits; a NaN's as those of 0.
-fn hex_of(x: f64) -> [u8; 16] {
+pub fn hex_of(x: f64) -> [u8; 16] {
     if x != x {
         return [48; 16];
     }
@@ -40,12 +40,12 @@ fn hex_of(x: f64) -> [u8; 16] {
 }
 
 // A price, or a number, with a space behind it.
-fn print_price(x: f64) {
+pub fn print_price(x: f64) {
     io::write_all(1, &hex_of(x));
     io::write_all(1, b" ");
 }
 
-fn print_number(n: u16) {
+pub fn print_number(n: u16) {
     io::print_decimal(1, n as u64);
     io::write_all(1, b" ");
 }
@@ -77,7 +77,7 @@ pub fn print_case3_head(name: &[u8], case3: u8, number: u8, count: u16) {
 }
 
 // How many rows are printed: as many as there are, and no more than an array has.
-fn shown(count: u16, size: usize) -> usize
+pub fn shown(count: u16, size: usize) -> usize
     ensures { λ r. ⌜ r ≤ size ⌝ }
 {
     let n = count as usize;
@@ -85,7 +85,7 @@ fn shown(count: u16, size: usize) -> usize
 }
 
 // A row of the section ZONES.
-fn print_zone(z: Zone) {
+pub fn print_zone(z: Zone) {
     print_number(z.sup_idx);
     print_number(z.start_bar);
     print_number(z.end_bar);

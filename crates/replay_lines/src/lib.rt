@@ -1,0 +1,109 @@
+// What `replay` prints of a log of calls: an answer for each call, then the chart. Of printing only safety is proved; answers and chart come
+// from the proved replay.
+use chart::Chart;
+use chart::Stroke;
+use chart::Triple;
+use chart::Zone;
+use live::Live;
+ghost use Prim.Native.Nat.{_≤_};
+
+fn print_answer(number: u8) {
+    io::print_decimal(1, number as u64);
+    io::write_all(1, b"\n");
+}
+
+// The places that the answers fill: as many as there are calls, and no more than an array has.
+fn filled(calls: usize) -> usize
+    ensures { λ r. ⌜ r ≤ 32768 ⌝ }
+{
+    if calls < 32768 { calls } else { 32768 }
+}
+
+fn print_answers(numbers: [u8; 32768], calls: usize) {
+    for i in 0..filled(calls) {
+        print_answer(numbers[i]);
+    }
+}
+
+fn print_stroke(s: Stroke) {
+    io::write_all(1, b"stroke ");
+    printing::print_number(s.direction as u16);
+    printing::print_number(s.start_bar);
+    printing::print_number(s.end_bar);
+    printing::print_price(s.start_price);
+    io::write_all(1, &printing::hex_of(s.end_price));
+    io::write_all(1, b"\n");
+}
+
+fn print_strokes(rows: [Stroke; 512], count: u16) {
+    for i in 0..printing::shown(count, 512) {
+        print_stroke(rows[i]);
+    }
+}
+
+// A record of the level of this name.
+fn print_triple(name: &[u8], t: Triple) {
+    io::write_all(1, name);
+    printing::print_number(t.direction as u16);
+    printing::print_number(t.first);
+    io::print_decimal(1, t.last as u64);
+    io::write_all(1, b"\n");
+}
+
+fn print_triples(name: &[u8], rows: [Triple; 256], count: u16) {
+    for i in 0..printing::shown(count, 256) {
+        print_triple(name, rows[i]);
+    }
+}
+
+fn print_zone(z: Zone) {
+    io::write_all(1, b"zone ");
+    printing::print_zone(z);
+}
+
+fn print_zones(rows: [Zone; 256], count: u16) {
+    for i in 0..printing::shown(count, 256) {
+        print_zone(rows[i]);
+    }
+}
+
+fn print_chart(chart: Chart) {
+    let strokes = chart.strokes;
+    print_strokes(strokes, chart.stroke_count);
+    let segments = chart.segments;
+    print_triples(b"segment ", segments, chart.segment_count);
+    let bigs = chart.bigs;
+    print_triples(b"big ", bigs, chart.big_count);
+    let superiors = chart.superiors;
+    print_triples(b"superior ", superiors, chart.superior_count);
+}
+
+// The count of accepted calls, the records of each level, and the zones.
+fn print_live(b: Live) {
+    io::write_all(1, b"count ");
+    io::print_decimal(1, b.count as u64);
+    io::write_all(1, b"\n");
+    let chart = b.chart;
+    print_chart(chart);
+    let zones = b.zones;
+    print_zones(zones, b.zone_count);
+}
+
+fn print_bad(place: usize) {
+    io::write_all(1, b"bad log at ");
+    io::print_decimal(1, place as u64);
+    io::write_all(1, b"\n");
+}
+
+// All lines, or `bad log at P` alone.
+pub fn print_replay(log: &[u8]) {
+    let r = playback::replay(log);
+    if r.bad {
+        print_bad(r.place);
+        return;
+    }
+    let answers = r.answers;
+    print_answers(answers, r.count);
+    let left = r.chart;
+    print_live(left);
+}
