@@ -49,7 +49,7 @@ use Rattle.laws.proofs.EndBars.{EndsBefore, bigs-rise}
 
 -- ---- rising bars
 
-abbrev Rising : List ℕ → Type 0
+abbrev pub Rising : List ℕ → Type 0
 Rising xs = Sorted (λ (a b : ℕ). a < b) xs
 
 insert-rising : (xs : List ℕ) (b : ℕ) → Rising xs → Rising (insertBar xs b)
@@ -67,7 +67,7 @@ insert-rising (x ∷ xs) b (then a s) = go (ltb b x) refl (eqb b x) refl (insert
         let g : b ≡ x → ⊥ = eqb-false b x f in
         then (insert-all (λ (y : ℕ). x < y) xs b a (omega arith)) r
 
-inserts-rising : (xs l : List ℕ) → Rising xs → Rising (foldl insertBar xs l)
+pub inserts-rising : (xs l : List ℕ) → Rising xs → Rising (foldl insertBar xs l)
 inserts-rising xs [] s = s
 inserts-rising xs (b ∷ l) s = inserts-rising (insertBar xs b) l (insert-rising xs b s)
 

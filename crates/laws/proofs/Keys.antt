@@ -17,7 +17,7 @@ module _ {A : Type 0} where
   abbrev pub Distinct : List A → Type 0
   Distinct xs = Sorted (λ (x y : A). x ≡ y → ⊥) xs
 
-  distinct-snoc : {xs : List A} {y : A} → Distinct xs → All (λ (x : A). x ≡ y → ⊥) xs → Distinct (xs ++ (y ∷ []))
+  pub distinct-snoc : {xs : List A} {y : A} → Distinct xs → All (λ (x : A). x ≡ y → ⊥) xs → Distinct (xs ++ (y ∷ []))
   distinct-snoc none-left nil = then nil none-left
   distinct-snoc (then a d) (cons p b) = then (all-append a (cons p nil)) (distinct-snoc d b)
 

@@ -88,7 +88,7 @@ module _ (P : ℕ → Type 0) where
   insert-all (x ∷ xs) b (cons h a) p =
       all-cond (ltb b x) (cons p (cons h a)) (all-cond (eqb b x) (cons h a) (cons h (insert-all xs b a p)))
 
-  inserts-all : (xs l : List ℕ) → All P xs → All P l → All P (foldl insertBar xs l)
+  pub inserts-all : (xs l : List ℕ) → All P xs → All P l → All P (foldl insertBar xs l)
   inserts-all xs [] a nil = a
   inserts-all xs (b ∷ l) a (cons p m) = inserts-all (insertBar xs b) l (insert-all xs b a p) m
 

@@ -1,0 +1,5 @@
+pub mod Places
+pub mod Gathered
+pub mod Bars
+pub mod Numbers
+pub mod Filled

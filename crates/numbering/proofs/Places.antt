@@ -1,0 +1,46 @@
+-- The place of the first element that passes a test: how a search comes to it, and what is known there. Assumes nothing.
+use Prim.Native.Nat.{ℕ, suc, _+_, _<_, _≤_}
+use native.Mathlib.Omega.{arith}
+use mathlib.Core.Path.{_≡_, refl}
+use mathlib.Core.Bool.{Bool, true, false, _||_}
+use mathlib.Core.List.{List, [], _∷_}
+use lib.ListN.{length, getD, take, drop}
+use Rattle.rules.specs.Lists.{any, before}
+use Rattle.laws.proofs.Arrays.{left-more, left-none}
+
+module _ {A : Type 0} (p : A → Bool) where
+  -- the search has come to place i of n, and all is the place that it looks for
+  module _ (n i : ℕ) (xs : List A) (all : ℕ) (long : n ≤ length xs) (left : i + length (before p (drop i (take n xs))) ≡ all) where
+    pub place-none : n ≤ i → i ≤ n → n ≡ all
+    place-none h k = let e = rw (left-none n i xs h long) at left in omega arith
+
+    module _ (d : A) (h : i < n) where
+      here : i + length {A = A} (elim (p (getD xs i d)) [ true ↦ [] | false ↦ getD xs i d ∷ before p (drop (i + 1) (take n xs)) ]) ≡ all
+      here = rw (left-more n i xs d h long) at left
+
+      pub place-here : p (getD xs i d) ≡ true → i ≡ all
+      place-here e = let f = rw e at here in omega arith
+
+      pub place-pass : p (getD xs i d) ≡ false → i + 1 + length (before p (drop (i + 1) (take n xs))) ≡ all
+      place-pass e = let f = rw e at here in omega arith
+
+  -- it lies behind all elements where none passes, and else it has one that passes
+  pub none-passes : (xs : List A) → length xs ≤ length (before p xs) → any p xs ≡ false
+  none-passes [] h = refl
+  none-passes (x ∷ xs) h = go (p x) h (none-passes xs)
+    where
+      go :
+          (t : Bool) → suc (length xs) ≤ length {A = A} (elim t [ true ↦ [] | false ↦ x ∷ before p xs ])
+          → (length xs ≤ length (before p xs) → any p xs ≡ false) → (t || any p xs) ≡ false
+      go true k r = absurd (omega arith)
+      go false k r = r (omega arith)
+
+  pub one-passes : (xs : List A) → length (before p xs) < length xs → any p xs ≡ true
+  one-passes [] h = absurd (omega arith)
+  one-passes (x ∷ xs) h = go (p x) h (one-passes xs)
+    where
+      go :
+          (t : Bool) → length {A = A} (elim t [ true ↦ [] | false ↦ x ∷ before p xs ]) < suc (length xs)
+          → (length (before p xs) < length xs → any p xs ≡ true) → (t || any p xs) ≡ true
+      go true k r = refl
+      go false k r = r (omega arith)

@@ -1,0 +1,267 @@
+// Rows of 3+N marks while they are gathered. A mark's price is always the lent one of its side at its bar, so a row is kept as two numbers,
+// its key and its order, in the first places of two lent columns.
+use chart::NMark;
+use chart::ThirdMark;
+ghost use mathlib.Core.Path.{_≡_};
+ghost use mathlib.Core.Bool.{cond, not};
+ghost use mathlib.Core.List.{List, _∷_, _++_, map, foldl, List·Memᴰ};
+ghost use Prim.Native.Nat.{ℕ, _+_, _≤_, _<_};
+ghost use lib.ListN.{length, take, drop};
+ghost use lib.Dec.{eqb, leb, ltb};
+ghost use Rattle.chart.specs.declared.ThirdMark.{ThirdMark};
+ghost use Rattle.rules.specs.Answer.{rowsAnswer, given};
+ghost use Rattle.rules.specs.Lists.{before, behind, keep};
+ghost use Rattle.rules.specs.Records.{Quotes};
+ghost use Rattle.rules.specs.Marks.{priceAt, numbered, orderZero, insertBar, zeroAt, push3N};
+ghost use Rattle.laws.proofs.Lists.{All};
+ghost use Rattle.numbering.specs.Rows.{keyOf, barIn, rowKey, markIn, marksIn, Room, Grown, NumbersBar};
+
+// ---- keys
+
+// A mark's bar and side as one number.
+pub fn key_of(bar: u16, buy: bool) -> u32
+    ensures { λ r. ⌜ r ≡ keyOf bar buy ⌝ }
+{
+    if buy {
+        return bar as u32 * 2 + 1;
+    }
+    bar as u32 * 2
+}
+
+// The place of a key among the first n, and n where it is not there.
+pub fn place_of(keys: &[u32], n: usize, key: u32) -> usize
+    requires { ⌜ n ≤ length (now keys) ⌝ }
+    ensures { λ r. ⌜ r ≤ n ⌝ }
+    ensures { λ r. ⌜ r ≡ length (before (λ (k : ℕ). eqb k key) (take n (now (keys .entry)))) ⌝ }
+{
+    let mut i = 0usize;
+    while i < n {
+        if keys[i] == key {
+            return i;
+        }
+        i += 1;
+    }
+    n
+}
+
+// ---- rows
+
+// The smaller of two orders.
+fn smaller(new: u32, old: u32) -> u32
+    ensures { λ r. ⌜ r ≡ cond (ltb new old) new old ⌝ }
+{
+    if new < old { new } else { old }
+}
+
+// On a repeat of bar and side the smaller order wins, in the earlier row's place; the price is the same.
+pub fn push_3n(keys: &mut [u32], orders: &mut [u32], n: usize, key: u32, order: u32) -> usize
+    requires { ⌜ (n ≤ 512) × (513 ≤ length (now keys)) × (513 ≤ length (now orders)) ⌝ }
+    ensures { λ r. ⌜ ((q : Quotes) → marksIn q (take r (now (keys .exit))) (take r (now (orders .exit))) ≡ push3N (marksIn q (take n (now (keys .entry))) (take n (now (orders .entry)))) (markIn q key order)) ⌝ }
+    ensures { λ r. ⌜ ((ends : List ℕ) → Room ends (now (keys .entry)) n → List·Memᴰ (barIn key) ends → Room ends (now (keys .exit)) r) ⌝ }
+    ensures { λ r. ⌜ Grown n (now (keys .entry)) (now (orders .entry)) r (now (keys .exit)) (now (orders .exit)) ⌝ }
+{
+    let i = place_of(keys, n, key);
+    if i < n {
+        orders[i] = smaller(order, orders[i]);
+        return n;
+    }
+    keys[n] = key;
+    orders[n] = order;
+    n + 1
+}
+
+// ---- bars
+
+// The place of the first bar of n that is not below this one, and n where there is none.
+fn bar_place(bars: &[u32], n: usize, bar: u32) -> usize
+    requires { ⌜ n ≤ length (now bars) ⌝ }
+    ensures { λ r. ⌜ r ≤ n ⌝ }
+    ensures { λ r. ⌜ r ≡ length (before (leb bar) (take n (now (bars .entry)))) ⌝ }
+{
+    let mut i = 0usize;
+    while i < n {
+        if bar <= bars[i] {
+            return i;
+        }
+        i += 1;
+    }
+    n
+}
+
+// Puts a bar in place `at` of n, and those from there on one place further.
+fn put_in(bars: &mut [u32], at: usize, n: usize, bar: u32)
+    requires { ⌜ (at ≤ n) × (n < length (now bars)) ⌝ }
+    ensures { λ _. ⌜ take (n + 1) (now (bars .exit)) ≡ take at (now (bars .entry)) ++ bar ∷ drop at (take n (now (bars .entry))) ⌝ }
+    ensures { λ _. ⌜ length (now (bars .exit)) ≡ length (now (bars .entry)) ⌝ }
+{
+    let mut held = bar;
+    let mut i = at;
+    while i < n {
+        let next = bars[i];
+        bars[i] = held;
+        held = next;
+        i += 1;
+    }
+    bars[n] = held;
+}
+
+// Puts a bar into n rising bars, in which each stands once.
+pub fn insert_bar(bars: &mut [u32], n: usize, bar: u32) -> usize
+    requires { ⌜ n < length (now bars) ⌝ }
+    ensures { λ r. ⌜ take r (now (bars .exit)) ≡ insertBar (take n (now (bars .entry))) bar ⌝ }
+    ensures { λ r. ⌜ length (now (bars .exit)) ≡ length (now (bars .entry)) ⌝ }
+    ensures { λ r. ⌜ (n ≤ r) × (r ≤ n + 1) ⌝ }
+{
+    let at = bar_place(bars, n, bar);
+    if at < n {
+        if bars[at] == bar {
+            return n;
+        }
+    }
+    put_in(bars, at, n, bar);
+    n + 1
+}
+
+// ---- numbered marks
+
+// What the numbering of a superior's bars has come to: the order of the next mark, 0 as long as no order-0 mark was met, and how many rows
+// there are.
+struct Step {
+    next: u32,
+    count: usize,
+}
+
+// One bar: the first order-0 mark begins the numbering, and none of them takes a number. The order-0 marks are the first `zeros` rows.
+fn number_bar(
+    bar: u32,
+    buy: bool,
+    zeros: usize,
+    next: u32,
+    keys: &mut [u32],
+    orders: &mut [u32],
+    n: usize,
+) -> Step
+    requires { ⌜ (bar < 0x1_0000) × (next < 0x1_0000) × (zeros ≤ n) × (n ≤ 512) × (513 ≤ length (now keys)) × (513 ≤ length (now orders)) ⌝ }
+    ensures { λ r. ⌜ NumbersBar bar buy zeros next n (now (keys .entry)) (now (orders .entry)) (r .next) (r .count) (now (keys .exit)) (now (orders .exit)) ⌝ }
+{
+    let key = key_of(bar as u16, buy);
+    let later = next + 1;
+    if place_of(keys, zeros, key) < zeros {
+        if next == 0 {
+            return Step { next: 1, count: n };
+        }
+        return Step { next, count: n };
+    }
+    if next == 0 {
+        return Step { next: 0, count: n };
+    }
+    let count = push_3n(keys, orders, n, key, next);
+    Step { next: later, count }
+}
+
+// The numbered marks of one superior, by its k scanned bars, which are sorted: those behind the first that has an order-0 mark of the side
+// get 1, 2, .., other order-0 marks taking no number.
+pub fn number_bars(
+    bars: &[u32],
+    k: usize,
+    buy: bool,
+    zeros: usize,
+    keys: &mut [u32],
+    orders: &mut [u32],
+    n: usize,
+) -> usize
+    requires { ⌜ (k ≤ length (now bars)) × (k ≤ 0x1_0000) × (zeros ≤ n) × (513 ≤ length (now keys)) × (513 ≤ length (now orders)) ⌝ }
+    requires { ⌜ ((ends : List ℕ) × Room ends (now keys) n × All (λ (b : ℕ). List·Memᴰ b ends) (take k (now bars))) ⌝ }
+    ensures { λ r. ⌜ ((q : Quotes) (thirds : List ThirdMark) → take zeros (now (keys .entry)) ≡ map rowKey thirds → marksIn q (take r (now (keys .exit))) (take r (now (orders .exit))) ≡ foldl push3N (marksIn q (take n (now (keys .entry))) (take n (now (orders .entry)))) (numbered q buy 1 (keep (λ (b : ℕ). not (zeroAt thirds buy b)) (behind (zeroAt thirds buy) (take k (now (bars .entry))))))) ⌝ }
+    ensures { λ r. ⌜ ((ends : List ℕ) → Room ends (now (keys .entry)) n → All (λ (b : ℕ). List·Memᴰ b ends) (take k (now (bars .entry))) → Room ends (now (keys .exit)) r) ⌝ }
+    ensures { λ r. ⌜ Grown n (now (keys .entry)) (now (orders .entry)) r (now (keys .exit)) (now (orders .exit)) ⌝ }
+{
+    let mut next = 0u32;
+    let mut count = n;
+    let mut i = 0usize;
+    while i < k {
+        let step = number_bar(bars[i], buy, zeros, next, keys, orders, count);
+        next = step.next;
+        count = step.count;
+        i += 1;
+    }
+    count
+}
+
+// ---- rows in and out
+
+// The answer of the 3+N call: a number, and where it is 0 the first `count` rows.
+pub struct NRows {
+    pub number: u8,
+    pub count: u16,
+    pub rows: [NMark; 512],
+}
+
+// The low for buys, the high for sells, at a bar inside the slices.
+fn price_at(highs: &[f64], lows: &[f64], buy: bool, bar: usize) -> f64
+    requires { ⌜ (bar < length (now highs)) × (bar < length (now lows)) ⌝ }
+    ensures { λ r. ⌜ r ≡ priceAt (record { highs = now (highs .entry); lows = now (lows .entry) }) buy bar ⌝ }
+{
+    if buy {
+        return lows[bar];
+    }
+    highs[bar]
+}
+
+// The mark of a row.
+fn row_of(key: u32, order: u32, highs: &[f64], lows: &[f64]) -> NMark
+    requires { ⌜ (length (now highs) ≤ 0x1_0000) × (barIn key < length (now highs)) × (barIn key < length (now lows)) ⌝ }
+    ensures { λ r. ⌜ r ≡ markIn (record { highs = now (highs .entry); lows = now (lows .entry) }) key order ⌝ }
+{
+    let bar = key / 2;
+    let buy = key % 2 == 1;
+    let price = price_at(highs, lows, buy, bar as usize);
+    NMark {
+        bar_index: bar as u16,
+        price,
+        is_buy: buy,
+        order,
+    }
+}
+
+// The marks of the first n rows.
+pub fn rows_of(keys: &[u32], orders: &[u32], n: usize, highs: &[f64], lows: &[f64]) -> NRows
+    requires { ⌜ (n ≤ 512) × (n ≤ length (now keys)) × (n ≤ length (now orders)) × (length (now highs) ≤ 0x1_0000) ⌝ }
+    requires { ⌜ All (λ (k : ℕ). (barIn k < length (now highs)) × (barIn k < length (now lows))) (take n (now keys)) ⌝ }
+    ensures { λ r. ⌜ rowsAnswer (r .number) (r .count) (r .rows) ≡ given (marksIn (record { highs = now (highs .entry); lows = now (lows .entry) }) (take n (now (keys .entry))) (take n (now (orders .entry)))) ⌝ }
+{
+    let none = NMark {
+        bar_index: 0,
+        price: 0.0,
+        is_buy: false,
+        order: 0,
+    };
+    let mut rows = [none; 512];
+    let mut i = 0usize;
+    while i < n {
+        rows[i] = row_of(keys[i], orders[i], highs, lows);
+        i += 1;
+    }
+    NRows {
+        number: 0,
+        count: n as u16,
+        rows,
+    }
+}
+
+// The first t third marks as rows of order 0.
+pub fn zero_rows(rows: [ThirdMark; 512], t: u16, keys: &mut [u32], orders: &mut [u32]) -> usize
+    requires { ⌜ (t ≤ 512) × (t ≤ length (now keys)) × (t ≤ length (now orders)) ⌝ }
+    ensures { λ r. ⌜ ((q : Quotes) → All (λ (m : ThirdMark). priceAt q (m .«is_buy») (m .«bar_index») ≡ m .price) (take t rows) → marksIn q (take t (now (keys .exit))) (take t (now (orders .exit))) ≡ map orderZero (take t rows)) ⌝ }
+    ensures { λ r. ⌜ (r ≡ t) × (take t (now (keys .exit)) ≡ map rowKey (take t rows)) × (length (now (keys .exit)) ≡ length (now (keys .entry))) × (length (now (orders .exit)) ≡ length (now (orders .entry))) ⌝ }
+{
+    let n = t as usize;
+    let mut i = 0usize;
+    while i < n {
+        let m = rows[i];
+        keys[i] = key_of(m.bar_index, m.is_buy);
+        orders[i] = 0;
+        i += 1;
+    }
+    n
+}

@@ -1,0 +1,4 @@
+pub mod Results
+pub mod Promised
+pub mod Hostile
+pub mod Reached

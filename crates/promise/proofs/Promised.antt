@@ -1,0 +1,77 @@
+-- Demand 3 but for 3+N marks: `promise`, of every sequence of calls, and of every call for third marks behind it. Assumes nothing.
+use Prim.Native.Nat.{ℕ}
+use mathlib.Core.Path.{_≡_, sym, ap, subst, _∙_}
+use mathlib.Core.Bool.{false}
+use mathlib.Core.List.{List, List·Memᴰ}
+use Rattle.chart.specs.declared.Zone.{Zone}
+use Rattle.chart.specs.declared.Chart.{Chart}
+use Rattle.chart.specs.declared.ThirdMark.{ThirdMark}
+use Rattle.rules.specs.Answer.{rowsAnswer}
+use Rattle.rules.specs.Records.{levelsOf, Quotes}
+use Rattle.rules.specs.Zones.{overlapZones, membersOf}
+use Rattle.rules.specs.Marks.{thirdMarks}
+use Rattle.rules.specs.Refusals.{overfull, badLevels, badChart, badLive, zonesRefusal}
+use Rattle.rules.specs.Calls.{thirdCall}
+use Rattle.rules.specs.Machine.{Call, zones}
+use Rattle.rules.specs.Claims.{OneZone}
+use Rattle.laws.proofs.Tests.{or-i}
+use Rattle.laws.proofs.Lists.{All, all-in}
+use Rattle.laws.proofs.Ordered.{InOrder, not-bad, not-broken}
+use Rattle.laws.proofs.Machine.{not-21-ordered, not-21-counts}
+use Rattle.laws.proofs.Zones.{zones-edges, zone-opposes, one-zone, zones-members, never-11}
+use Rattle.laws.proofs.Thirds.{thirds-beyond}
+use Rattle.laws.proofs.Grounds.{thirds-traced}
+use Rattle.live.specs.declared.Live.{Live}
+use Rattle.live.specs.Sequence.{AsMachine}
+use Rattle.live.proofs.Chained.{sequence}
+use Rattle.promise.specs.Promise.{levelsIn, zonesIn, Thirds, The-promise}
+use Rattle.promise.proofs.Results.{result, third-is}
+
+-- what holds of every one of some rows holds of each of rows that are the same
+each-of : {A : Type 0} {P : A → Type 0} {xs ys : List A} → xs ≡ ys → All P ys → (x : A) → List·Memᴰ x xs → P x
+each-of {P = P} e h x m = all-in (subst (All P) (sym e) h) m
+
+-- ---- calls for marks on a chart in order
+
+module _ (c : Chart) (good : badChart c ≡ false) (o : InOrder (levelsOf c)) where
+  few : zonesRefusal (levelsOf c) ≡ 0
+  few = never-11 (levelsOf c) (not-broken (levelsOf c) o) (o .bigs .fit)
+
+  third :
+      (q : Quotes) (number count : ℕ) (rows : List ThirdMark) → rowsAnswer number count rows ≡ thirdCall c q
+      → Thirds (levelsOf c) q number count rows
+  third q number count rows e =
+      let r = result count rows _ (thirdMarks (levelsOf c) q) number (e ∙ third-is c q good few) in
+      record {
+        result = r;
+        beyond = λ h. each-of (r .rows-are h) (thirds-beyond (levelsOf c) q);
+        traced = λ h. each-of (r .rows-are h) (thirds-traced (levelsOf c) q);
+      }
+
+-- ---- the chart that a sequence leaves
+
+not-21 : (c : Chart) (places : List Zone) (n : ℕ) → badLive c places n ≡ false → badChart c ≡ false
+unfolding badChart
+not-21 c places n h =
+    or-i (overfull c) (badLevels (levelsOf c)) (not-21-counts c places n h .0) (not-bad (levelsOf c) (not-21-ordered c places n h))
+
+left-zones : (ks : List Call) (ns : List ℕ) (d : Live) → AsMachine ks ns d → zonesIn d ≡ overlapZones (levelsIn d)
+unfolding zones
+left-zones ks ns d a = a .zones-are ∙ ap overlapZones (sym (a .levels-are))
+
+pub promise : The-promise
+promise b d ks ns h t =
+    let a = sequence b d ks ns h t in
+    let l = levelsIn d in
+    let o = not-21-ordered (d .chart) (d .zones) (d .«zone_count») (a .in-order) in
+    let good = not-21 (d .chart) (d .zones) (d .«zone_count») (a .in-order) in
+    let z = left-zones ks ns d a in
+    record {
+      as-machine = a;
+      zones-are = z;
+      one-zone = λ i j w. subst (λ (zs : List Zone). OneZone zs (membersOf l) i j) (sym z) (one-zone l (not-broken l o) i j w);
+      members-are = each-of z (zones-members l (not-broken l o));
+      members-oppose = λ y m j w. zone-opposes l y j w;
+      edges = each-of z (zones-edges l (not-bad l o));
+      third = third (d .chart) good o;
+    }
