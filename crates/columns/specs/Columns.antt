@@ -9,9 +9,13 @@ use lib.Ieee.{Float, nan}
 use Rattle.chart.specs.declared.Stroke.{Stroke}
 use Rattle.chart.specs.declared.Range.{Range}
 use Rattle.chart.specs.declared.Range.the-variants.{Found, Missing}
+use Rattle.chart.specs.declared.Triple.{Triple}
+use Rattle.chart.specs.declared.Zone.{Zone}
+use Rattle.rules.specs.Records.{Levels}
+use Rattle.rules.specs.Ranges.{rangeOf, lastStroke}
 
 -- the first m places of a column have what g gives of these
-pub record Column {A : Type 0} (g : A → ℕ) (m : ℕ) (column : List ℕ) (xs : List A) : Type 0 where
+pub record Column {A B : Type 0} (g : A → B) (m : ℕ) (column : List B) (xs : List A) : Type 0 where
   pub are : take m column ≡ map g xs
   pub long : m ≤ length column
 
@@ -32,3 +36,19 @@ barOf (some s) = suc (s .«end_bar»)
 -- a column has the end prices of the strokes that are there
 abbrev pub Prices : List Float → List (Option Stroke) → Type 0
 Prices prices os = (k : ℕ) (s : Stroke) → getElem? os k ≡ some (some s) → getD prices k nan ≡ s .«end_price»
+
+-- the columns of the m bigs of some levels: directions, start and end bars of the ranges, bars and prices of the end points
+pub record BigColumns (c : Levels) (m : ℕ) (ways starts ends points : List ℕ) (prices : List Float) : Type 0 where
+  pub by-way : Column (λ (t : Triple). t .direction) m ways (c .bigs)
+  pub by-start : Column startOf m starts (map (rangeOf c) (c .bigs))
+  pub by-end : Column endOf m ends (map (rangeOf c) (c .bigs))
+  pub by-point : Column barOf m points (map (lastStroke c) (c .bigs))
+  pub by-price : Prices prices (map (lastStroke c) (c .bigs))
+
+-- the columns of zones: their superiors, start and end bars, and edges
+pub record ZoneColumns (n : ℕ) (owners starts ends : List ℕ) (lows highs : List Float) (zs : List Zone) : Type 0 where
+  pub by-owner : Column (λ (z : Zone). z .«sup_idx») n owners zs
+  pub by-start : Column (λ (z : Zone). z .«start_bar») n starts zs
+  pub by-end : Column (λ (z : Zone). z .«end_bar») n ends zs
+  pub by-low : Column (λ (z : Zone). z .zd) n lows zs
+  pub by-high : Column (λ (z : Zone). z .zg) n highs zs

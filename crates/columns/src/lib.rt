@@ -14,9 +14,9 @@ ghost use Rattle.chart.specs.declared.Triple.{Triple};
 ghost use Rattle.chart.specs.declared.Zone.{Zone};
 ghost use Rattle.chart.specs.Table.{rangesIn};
 ghost use Rattle.rules.specs.Records.{Levels, levelsOf};
-ghost use Rattle.rules.specs.Ranges.{lastStroke};
+ghost use Rattle.rules.specs.Ranges.{rangeOf, lastStroke};
 ghost use Rattle.rules.specs.Marks.{superiorEnd};
-ghost use Rattle.columns.specs.Columns.{Column, startOf, endOf, barOf, Prices};
+ghost use Rattle.columns.specs.Columns.{Column, startOf, endOf, barOf, BigColumns, ZoneColumns};
 ghost use Rattle.columns.specs.Read.{lastFrom};
 
 // The directions of the first n triples.
@@ -83,12 +83,6 @@ pub fn bars_of(slots: [Slot; 256], m: usize) -> Bars
 
 // ---- end points
 
-// The end points of bigs: the end bar of each, and where there is one its end price.
-pub struct Points {
-    pub bars: [u32; 256],
-    pub prices: [f64; 256],
-}
-
 // The end bar of the big b in a chart with these numbers of segments and strokes: z is its last segment and e the last stroke of z, each
 // of them where it is there.
 fn end_bar_from(b: Triple, z: Triple, e: Stroke, segments: u16, strokes: u16) -> u32
@@ -103,30 +97,47 @@ fn end_bar_from(b: Triple, z: Triple, e: Stroke, segments: u16, strokes: u16) ->
     e.end_bar as u32 + 1
 }
 
-// The end points of all bigs, once: a call on the chart for each would copy the chart.
-pub fn points_of(chart: Chart) -> Points
+// The ranges of all bigs, and their columns: the directions, the bars of the ranges, the end points. One pass over the chart, since each
+// call on a chart copies it.
+pub fn bigs_of(
+    chart: Chart,
+    ways: &mut [u8],
+    starts: &mut [u32],
+    ends: &mut [u32],
+    points: &mut [u32],
+    prices: &mut [f64],
+) -> [Slot; 256]
     requires { ⌜ (chart .«stroke_count» ≤ 512) × (chart .«segment_count» ≤ 256) × (chart .«big_count» ≤ 256) ⌝ }
-    ensures { λ r. ⌜ Column barOf (chart .«big_count») (r .bars) (map (lastStroke (levelsOf chart)) (levelsOf chart .bigs)) ⌝ }
-    ensures { λ r. ⌜ Prices (r .prices) (map (lastStroke (levelsOf chart)) (levelsOf chart .bigs)) ⌝ }
+    requires { ⌜ (length (now ways) ≡ 256) × (length (now starts) ≡ 256) × (length (now ends) ≡ 256) × (length (now points) ≡ 256) × (length (now prices) ≡ 256) ⌝ }
+    ensures { λ r. ⌜ rangesIn (chart .«big_count») r ≡ map (rangeOf (levelsOf chart)) (levelsOf chart .bigs) ⌝ }
+    ensures { λ r. ⌜ BigColumns (levelsOf chart) (chart .«big_count») (now (ways .exit)) (now (starts .exit)) (now (ends .exit)) (now (points .exit)) (now (prices .exit)) ⌝ }
 {
     let n = chart.big_count as usize;
-    let mut bars = [0u32; 256];
-    let mut prices = [0.0f64; 256];
+    let none = Range::Missing;
+    let slot = Slot { range: none };
+    let mut slots = [slot; 256];
     let mut k = 0usize;
     while k < n {
         let b = chart.bigs[k];
+        let i = levels::within(b.first, 256);
         let j = levels::within(b.last, 256);
+        let a = chart.segments[i];
         let z = chart.segments[j];
+        let p = levels::within(a.first, 512);
         let q = levels::within(z.last, 512);
+        let s = chart.strokes[p];
         let e = chart.strokes[q];
-        bars[k] = end_bar_from(b, z, e, chart.segment_count, chart.stroke_count);
+        let range = levels::range_from(b, a, z, s, e, chart.segment_count, chart.stroke_count);
+        let bar = bar_of(range);
+        ways[k] = b.direction;
+        starts[k] = bar.start;
+        ends[k] = bar.end;
+        points[k] = end_bar_from(b, z, e, chart.segment_count, chart.stroke_count);
         prices[k] = e.end_price;
+        slots[k] = Slot { range };
         k += 1;
     }
-    Points {
-        bars: bars,
-        prices: prices,
-    }
+    slots
 }
 
 // The end bar of a superior, by the end bars of m bigs.
@@ -161,28 +172,28 @@ pub fn superior_ends(superiors: [Triple; 256], n: usize, points: &[u32], m: usiz
 
 // ---- zones
 
-// The superior and the start bar of each zone. A zone has a start bar always, so this one is the bar itself.
-pub struct ZoneBars {
-    pub owners: [u16; 256],
-    pub starts: [u16; 256],
-}
-
-// The superiors and start bars of the first n zones.
-pub fn zone_bars(zones: [Zone; 256], n: usize) -> ZoneBars
+// The columns of the first n zones: their superiors, start and end bars, and edges.
+pub fn zone_columns(
+    zones: [Zone; 256],
+    n: usize,
+    owners: &mut [u16],
+    starts: &mut [u16],
+    ends: &mut [u16],
+    lows: &mut [f64],
+    highs: &mut [f64],
+)
     requires { ⌜ n ≤ 256 ⌝ }
-    ensures { λ r. ⌜ Column (λ (z : Zone). z .«sup_idx») n (r .owners) (take n zones) × Column (λ (z : Zone). z .«start_bar») n (r .starts) (take n zones) ⌝ }
+    requires { ⌜ (length (now owners) ≡ 256) × (length (now starts) ≡ 256) × (length (now ends) ≡ 256) × (length (now lows) ≡ 256) × (length (now highs) ≡ 256) ⌝ }
+    ensures { λ _. ⌜ ZoneColumns n (now (owners .exit)) (now (starts .exit)) (now (ends .exit)) (now (lows .exit)) (now (highs .exit)) (take n zones) ⌝ }
 {
-    let mut owners = [0u16; 256];
-    let mut starts = [0u16; 256];
     let mut k = 0;
     while k < n {
         let zone = zones[k];
         owners[k] = zone.sup_idx;
         starts[k] = zone.start_bar;
+        ends[k] = zone.end_bar;
+        lows[k] = zone.zd;
+        highs[k] = zone.zg;
         k += 1;
-    }
-    ZoneBars {
-        owners: owners,
-        starts: starts,
     }
 }

@@ -93,7 +93,7 @@ module _ (P : ℕ → Type 0) where
   inserts-all xs (b ∷ l) a (cons p m) = inserts-all (insertBar xs b) l (insert-all xs b a p) m
 
   module _ (c : Levels) where
-    pairs-all : (stop : ℕ → Bool) (d : ℕ) (bs : List Triple) → All (AtEnd c P) bs → All P (pairEnds c stop d bs)
+    pub pairs-all : (stop : ℕ → Bool) (d : ℕ) (bs : List Triple) → All (AtEnd c P) bs → All P (pairEnds c stop d bs)
     unfolding pairEnds
     pairs-all stop d [] a = nil
     pairs-all stop d (k ∷ []) a = nil
@@ -124,7 +124,7 @@ module _ (P : ℕ → Type 0) where
           pairs-all (stops c zs z) (superiorOf c z .direction) _
           (leaving-all c (z .«end_bar») (suc (superiorOf c z .last) - superiorOf c z .first) _ (all-drop (superiorOf c z .first) h))
 
-      bars-all : (zs : List Zone) (i : ℕ) → All P (scannedBars c zs i)
+      pub bars-all : (zs : List Zone) (i : ℕ) → All P (scannedBars c zs i)
       unfolding scannedBars
       bars-all zs i =
           let own = keep (λ (z : Zone). eqb (z .«sup_idx») i) zs in
@@ -160,7 +160,7 @@ module _ (P : ℕ → Type 0) where
 abbrev pub endBars : Levels → List ℕ
 endBars c = map (λ (s : Stroke). s .«end_bar») (collect (lastStroke c) (c .bigs))
 
-ends-there : (c : Levels) (bs : List Triple) → All (AtEnd c (λ (b : ℕ). List·Memᴰ b (map (λ (s : Stroke). s .«end_bar») (collect (lastStroke c) bs)))) bs
+pub ends-there : (c : Levels) (bs : List Triple) → All (AtEnd c (λ (b : ℕ). List·Memᴰ b (map (λ (s : Stroke). s .«end_bar») (collect (lastStroke c) bs)))) bs
 ends-there c [] = nil
 ends-there c (b ∷ bs) = cons first (all-map (λ t h s e. rest (lastStroke c b) (h s e)) (ends-there c bs))
   where

@@ -1,10 +1,11 @@
 -- Laws of refusal 21: a test on what is left of a level, and the tests on a chart put together. Assumes nothing.
 use Prim.Native.Nat.{ℕ, _+_, _<_, _≤_}
-use mathlib.Core.Path.{_≡_, refl}
-use mathlib.Core.Bool.{Bool, true, false, not, _||_, or-true, or-false}
+use mathlib.Core.Path.{_≡_, refl, sym, subst}
+use mathlib.Core.Bool.{Bool, true, false, not, _&&_, _||_, or-true, or-false, false≢true}
 use mathlib.Core.List.{List}
 use lib.ListN.{length, getD, take, drop}
-use lib.Dec.{ltb}
+use lib.Dec.{T, leb, ltb, leb→le}
+use borrow.Author.Tests.{le-ltb}
 use Rattle.chart.specs.declared.Stroke.{Stroke}
 use Rattle.chart.specs.declared.Chart.{Chart}
 use Rattle.price.specs.Price.{isPrice}
@@ -39,6 +40,23 @@ module _ (s : Stroke) where
   pub wrong-start : isPrice (s .«start_price») ≡ false → true ≡ wrongStroke s
   unfolding wrongStroke badPrices
   wrong-start e = simp (e, or-true)
+
+-- ---- one stroke, by tests that have no branch
+
+pub both : (a b : Bool) → (a && b) ≡ true → (a ≡ true) × (b ≡ true)
+both true b h = (refl, h)
+both false b h = absurd (false≢true h)
+
+-- p and q are tests of its two prices that only prices pass
+pub right-at-a-glance :
+    (s : Stroke) (p q : Bool) → (p ≡ true → isPrice (s .«start_price») ≡ true) → (q ≡ true → isPrice (s .«end_price») ≡ true)
+    → (leb (s .direction) 1 && p && q) ≡ true → wrongStroke s ≡ false
+unfolding wrongStroke badPrices
+right-at-a-glance s p q first last h =
+    let all = both (leb (s .direction) 1 && p) q h in
+    let two = both (leb (s .direction) 1) p (all .0) in
+    let way : s .direction ≤ 1 = leb→le _ _ (subst T (sym (two .0)) tt) in
+    rw (le-ltb 1 (s .direction) way, first (two .1), last (all .1))
 
 -- ---- a chart
 

@@ -7,7 +7,7 @@ use chart::Span;
 use chart::Stroke;
 use chart::Triple;
 ghost use mathlib.Core.Path.{_≡_};
-ghost use mathlib.Core.Bool.{_||_};
+ghost use mathlib.Core.Bool.{true, false, _||_};
 ghost use mathlib.Core.List.{map};
 ghost use mathlib.Core.Option.{some};
 ghost use Prim.Native.Nat.{_≤_, _<_, min};
@@ -33,6 +33,13 @@ fn wrong_stroke(s: Stroke) -> bool
         return !price::is_price(s.end_price);
     }
     true
+}
+
+// Whether a stroke is right at a glance: its prices are not 0. It has no branch, so that a loop tests the two prices at a time.
+fn plain_stroke(s: Stroke) -> bool
+    ensures { λ r. ⌜ (r ≡ true → wrongStroke s ≡ false) ⌝ }
+{
+    (s.direction <= 1) & price::off_zero(s.start_price) & price::off_zero(s.end_price)
 }
 
 // Whether one of the first n triples has a direction above 1.
@@ -66,7 +73,7 @@ fn overfull(strokes: u16, segments: u16, bigs: u16, superiors: u16) -> bool
     256 < superiors
 }
 
-// Refusal 21 of a loaded chart. The strokes are tested where they lie.
+// Refusal 21 of a loaded chart. The strokes are tested where they lie, and one after the other only where a glance does not do.
 pub fn bad_chart(chart: Chart) -> bool
     ensures { λ r. ⌜ r ≡ badChart chart ⌝ }
 {
@@ -90,6 +97,16 @@ pub fn bad_chart(chart: Chart) -> bool
     let superiors = chart.superiors;
     if wrong_triples(superiors, chart.superior_count) {
         return true;
+    }
+    let mut plain = true;
+    let mut k = 0u16;
+    while k < count {
+        let s = chart.strokes[k as usize];
+        plain = plain & plain_stroke(s);
+        k += 1;
+    }
+    if plain {
+        return false;
     }
     let mut i = 0u16;
     while i < count {
@@ -133,7 +150,7 @@ fn span_of(s: Stroke, e: Stroke) -> Range
 
 // The range of the big b in a chart with these numbers of segments and strokes: a and z are its first and last segment, s the first stroke
 // of a and e the last of z, each of them where it is there.
-fn range_from(
+pub fn range_from(
     b: Triple,
     a: Triple,
     z: Triple,

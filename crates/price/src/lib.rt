@@ -93,12 +93,12 @@ pub fn bytes_of(n: u64) -> [u8; 8]
     ]
 }
 
-// Whether x is above 0 and finite, as most prices are. It has no branch, so that a loop tests several at a time.
+// Whether x is above 0 and finite, as most prices are: x - x is 0 where x is finite, and NaN elsewhere. It has no branch, so that a loop
+// tests several at a time.
 fn plain(x: f64) -> bool
     ensures { λ r. ⌜ (r ≡ true → Price x) ⌝ }
 {
-    // the largest finite number
-    (0.0 < x) & (x <= 1.7976931348623157e308)
+    x - x < x
 }
 
 // Whether each element of xs is plainly a price.
@@ -109,6 +109,26 @@ fn all_plain(xs: &[f64]) -> bool
     let mut i = 0usize;
     while i < xs.len() {
         good = good & plain(xs[i]);
+        i += 1;
+    }
+    good
+}
+
+// Whether x is finite and not 0, on either side of 0. It has no branch either.
+pub fn off_zero(x: f64) -> bool
+    ensures { λ r. ⌜ (r ≡ true → Price x) ⌝ }
+{
+    (x != 0.0) & (-1.7976931348623157e308 <= x) & (x <= 1.7976931348623157e308)
+}
+
+// Whether each element of xs is finite and not 0.
+fn all_off_zero(xs: &[f64]) -> bool
+    ensures { λ r. ⌜ (r ≡ true → allPrices (now (xs .entry)) ≡ true) ⌝ }
+{
+    let mut good = true;
+    let mut i = 0usize;
+    while i < xs.len() {
+        good = good & off_zero(xs[i]);
         i += 1;
     }
     good
@@ -128,11 +148,14 @@ fn each_price(xs: &[f64]) -> bool
     true
 }
 
-// Whether each element of xs is a price. The quick test decides, but where one is 0, below 0 or no price.
+// Whether each element of xs is a price. The quick tests decide, but where one is 0 or no price.
 pub fn all_prices(xs: &[f64]) -> bool
     ensures { λ r. ⌜ r ≡ allPrices (now (xs .entry)) ⌝ }
 {
     if all_plain(xs) {
+        return true;
+    }
+    if all_off_zero(xs) {
         return true;
     }
     each_price(xs)

@@ -1,3 +1,4 @@
 pub mod Columns
 pub mod Steps
 pub mod Zones
+pub mod Quotes

@@ -18,11 +18,11 @@ use Rattle.rules.specs.Lists.{any}
 use Rattle.rules.specs.Records.{Levels, Quotes}
 use Rattle.rules.specs.Marks.{superiorOf, leaving, reachesZone, reversal, stops}
 use Rattle.rules.specs.Refusals.{refuse, unequal, badSlices, badQuotes}
-use Rattle.laws.proofs.Arrays.{at-in}
 use Rattle.laws.proofs.Lists.{all-at, any-false}
-use Rattle.columns.specs.Columns.{barOf}
+use Rattle.columns.specs.Columns.{Column, barOf}
 use Rattle.scan.specs.Scan.{reached, reversalIn, ZoneScan, Scanning, quotesRefusal}
-use Rattle.scan.proofs.Steps.{reached-stroke}
+use Rattle.scan.proofs.Steps.{no-zone, reached-stroke}
+use Rattle.scan.proofs.Columns.{there, column-length, column-at}
 
 -- ---- one zone
 
@@ -42,25 +42,26 @@ zone-scan c zs z s from near turn limit here start zones turns both =
 
 -- a level is the first h places of an array: the superior of a zone, where it is one of them
 pub superior-at :
-    (c : Levels) (z : Zone) (h : ℕ) (superiors : List Triple) → take h superiors ≡ c .superiors → z .«sup_idx» < h
-    → superiorOf c z ≡ getD superiors (z .«sup_idx») (record { direction = 0; first = 0; last = 0 })
+    (c : Levels) (z : Zone) (h : ℕ) (superiors : List Triple) (owner : ℕ) → take h superiors ≡ c .superiors → z .«sup_idx» ≡ owner → owner < h
+    → superiorOf c z ≡ getD superiors owner (record { direction = 0; first = 0; last = 0 })
 unfolding superiorOf
-superior-at c z h superiors level below =
-    rw (← level) (getD-take h superiors (z .«sup_idx») (record { direction = 0; first = 0; last = 0 }) below)
+superior-at c z h superiors owner level same below =
+    rw (same, ← level) (getD-take h superiors owner (record { direction = 0; first = 0; last = 0 }) below)
 
 -- ---- all zones
 
 some-inj : {A : Type 0} {x y : A} → some x ≡ some y → x ≡ y
 some-inj e = cc
 
--- a place of an array that no zone's superior is behind
-pub zone-below :
-    (h n i : ℕ) (zones : List Zone) (d : Zone) → any (λ (z : Zone). leb h (z .«sup_idx»)) (take n zones) ≡ false → i < n → i < length zones
-    → getD zones i d .«sup_idx» < h
-zone-below h n i zones d e k l =
-    leb-false h (getD zones i d .«sup_idx»)
-    (all-at {P = λ (z : Zone). leb h (z .«sup_idx») ≡ false} i (getD zones i d) (any-false (λ (z : Zone). leb h (z .«sup_idx»)) (take n zones) e)
-    (at-in n i zones d k l))
+-- no zone's superior is behind the h
+pub owners-below :
+    (h n : ℕ) (owners : List ℕ) (zs : List Zone) → any (λ (z : Zone). leb h (z .«sup_idx»)) zs ≡ false
+    → Column (λ (z : Zone). z .«sup_idx») n owners zs → (i : ℕ) → i < n → getD owners i 0 < h
+owners-below h n owners zs e col i k =
+    rw (column-at (λ (z : Zone). z .«sup_idx») n owners zs col i no-zone k)
+    (leb-false h (getD zs i no-zone .«sup_idx»)
+    (all-at {P = λ (z : Zone). leb h (z .«sup_idx») ≡ false} i (getD zs i no-zone) (any-false (λ (z : Zone). leb h (z .«sup_idx»)) zs e)
+    (there zs i no-zone (omega (arith, k, column-length (λ (z : Zone). z .«sup_idx») n owners zs col)))))
 
 pub scans-next :
     (c : Levels) (zs : List Zone) (i : ℕ) (sides froms limits : List ℕ) (z : Zone) (a b l : ℕ) → i < length sides → i < length froms → i < length limits

@@ -12,13 +12,11 @@ use Rattle.chart.specs.declared.Triple.{Triple}
 use Rattle.chart.specs.declared.Zone.{Zone}
 use Rattle.rules.specs.Lists.{keep, find, collect}
 use Rattle.rules.specs.Records.{isUp, Levels, Quotes}
-use Rattle.rules.specs.Ranges.{rangeOf, lastStroke}
+use Rattle.rules.specs.Ranges.{lastStroke}
 use Rattle.rules.specs.Marks.{superiorOf, leaving, stops, superiorEnd}
 use Rattle.rules.specs.Refusals.{refuse, badSlices, badQuotes}
-use Rattle.columns.specs.Columns.{Column, startOf, endOf, barOf}
 use Rattle.scan.specs.declared.Pair.{Pair}
 use Rattle.scan.specs.declared.Pair.the-variants.{At, Over}
-use Rattle.scan.specs.declared.Scans.{Scans}
 use Rattle.scan.specs.declared.Quote.{Quote}
 use Rattle.scan.specs.declared.Quote.the-variants as quoted
 
@@ -84,11 +82,6 @@ pub record ZoneScan (c : Levels) (zs : List Zone) (z : Zone) (side from limit : 
 abbrev pub Scanning : Levels → List Zone → ℕ → List ℕ → List ℕ → List ℕ → Type 0
 Scanning c zs n sides froms limits =
     (i : ℕ) (z : Zone) → i < n → getElem? zs i ≡ some z → ZoneScan c zs z (getD sides i 0) (getD froms i 0) (getD limits i 0)
-
-pub record ScansOf (c : Levels) (zs : List Zone) (n m : ℕ) (r : Scans) : Type 0 where
-  pub ways : Column (λ (t : Triple). t .direction) m (r .ways) (c .bigs)
-  pub ends : Column endOf m (r .ends) (map (rangeOf c) (c .bigs))
-  pub zones : Scanning c zs n (r .sides) (r .froms) (r .limits)
 
 -- 8; 1; and what follows
 abbrev pub quotesRefusal : Quotes → ℕ → ℕ

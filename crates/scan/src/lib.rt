@@ -1,24 +1,20 @@
 // The scan of a zone's pairs, for third and 3+N marks: where it starts, what stops it, and the next pair. Bigs, superiors and zones are
 // lent as columns; a bar in a column is counted from 1, and 0 stands for none.
-use chart::Slot;
 use chart::Triple;
-use chart::Zone;
 ghost use mathlib.Core.Path.{_≡_};
-ghost use mathlib.Core.Bool.{Bool, false, not, _&&_, _||_, Bool·beq};
+ghost use mathlib.Core.Bool.{Bool, not, _&&_, _||_, Bool·beq};
 ghost use mathlib.Core.List.{List, map};
 ghost use Prim.Native.Nat.{ℕ, suc, _+_, _-_, _≤_, _<_, min};
 ghost use lib.ListN.{length, take, drop, getD};
-ghost use lib.Dec.{eqb, leb, ltb};
+ghost use lib.Dec.{eqb, ltb};
 ghost use lib.Ieee.{Float};
 ghost use Rattle.chart.specs.declared.Triple.{Triple};
 ghost use Rattle.chart.specs.declared.Zone.{Zone};
-ghost use Rattle.chart.specs.Table.{rangesIn};
-ghost use Rattle.rules.specs.Lists.{any};
 ghost use Rattle.rules.specs.Records.{isUp, Levels, Quotes};
 ghost use Rattle.rules.specs.Ranges.{rangeOf, lastStroke};
 ghost use Rattle.rules.specs.Marks.{superiorOf, leaving, reachesZone, superiorEnd, pairEnds, quote};
 ghost use Rattle.columns.specs.Columns.{Column, startOf, endOf, barOf};
-ghost use Rattle.scan.specs.Scan.{reached, overAt, offered, reversalIn, pairsBy, Later, ZoneScan, Scanning, ScansOf, NextEnd, quoteOf, quotesRefusal};
+ghost use Rattle.scan.specs.Scan.{reached, overAt, offered, reversalIn, pairsBy, Later, ZoneScan, Scanning, NextEnd, quoteOf, quotesRefusal};
 
 // ---- where it starts
 
@@ -186,10 +182,11 @@ struct Bounds {
     limit: u32,
 }
 
-// The scan of zone z, whose superior is s. Lent are the start bars of m bigs, the directions and end bars of h superiors, and the
+// The scan of a zone that ends at bar e, whose superior is s, at place `owner`. Lent are the start bars of m bigs, the directions and end bars of h superiors, and the
 // superiors and start bars of n zones.
 fn bounds_of(
-    z: Zone,
+    owner: u16,
+    e: u16,
     s: Triple,
     starts: &[u32],
     m: usize,
@@ -201,40 +198,23 @@ fn bounds_of(
     n: usize,
 ) -> Bounds
     requires { ⌜ (m ≤ 256) × (m ≤ length (now starts)) × (h ≤ length (now ways)) × (h ≤ length (now ends)) × (n ≤ length (now owners)) × (n ≤ length (now «zone_starts»)) ⌝ }
-    ensures { λ r. ⌜ ((c : Levels) (zs : List Zone) → superiorOf c z ≡ s → Column startOf m (now (starts .entry)) (map (rangeOf c) (c .bigs)) → Column (λ (t : Triple). t .direction) h (now (ways .entry)) (c .superiors) → Column (λ (t : Triple). barOf (superiorEnd c t)) h (now (ends .entry)) (c .superiors) → Column (λ (y : Zone). y .«sup_idx») n (now (owners .entry)) zs → Column (λ (y : Zone). y .«start_bar») n (now («zone_starts» .entry)) zs → ZoneScan c zs z (s .direction) (r .from) (r .limit)) ⌝ }
+    ensures { λ r. ⌜ ((c : Levels) (zs : List Zone) (z : Zone) → z .«sup_idx» ≡ owner → z .«end_bar» ≡ e → superiorOf c z ≡ s → Column startOf m (now (starts .entry)) (map (rangeOf c) (c .bigs)) → Column (λ (t : Triple). t .direction) h (now (ways .entry)) (c .superiors) → Column (λ (t : Triple). barOf (superiorEnd c t)) h (now (ends .entry)) (c .superiors) → Column (λ (y : Zone). y .«sup_idx») n (now (owners .entry)) zs → Column (λ (y : Zone). y .«start_bar») n (now («zone_starts» .entry)) zs → ZoneScan c zs z (s .direction) (r .from) (r .limit)) ⌝ }
 {
-    let from = start_of(
-        starts,
-        m,
-        s.first as usize,
-        s.last as usize,
-        z.end_bar as u32,
-    );
-    let near = next_zone(owners, zone_starts, n, z.sup_idx, z.end_bar);
-    let turn = reversal(
-        ways,
-        ends,
-        h,
-        z.sup_idx as usize + 1,
-        s.direction,
-        z.end_bar,
-    );
+    let from = start_of(starts, m, s.first as usize, s.last as usize, e as u32);
+    let near = next_zone(owners, zone_starts, n, owner, e);
+    let turn = reversal(ways, ends, h, owner as usize + 1, s.direction, e);
     Bounds {
         from: from as u16,
         limit: limit_of(near, turn),
     }
 }
 
-// Of each zone: the direction of its superior, and the bounds of its scan.
-struct ZoneScans {
-    sides: [u8; 256],
-    froms: [u16; 256],
-    limits: [u32; 256],
-}
-
-// The scans of the first n zones, whose superiors are among the first h. The two stops of a zone are worked out once.
-fn zone_scans(
-    zones: [Zone; 256],
+// The scans of n zones, whose superiors are among the first h: into lent columns, the direction of each zone's superior and the bounds of
+// its scan. Lent are, of the zones, the superiors, start bars and end bars.
+pub fn zone_scans(
+    owners: &[u16],
+    zone_starts: &[u16],
+    zone_ends: &[u16],
     n: usize,
     superiors: [Triple; 256],
     h: usize,
@@ -242,84 +222,36 @@ fn zone_scans(
     m: usize,
     ways: &[u8],
     ends: &[u32],
-) -> ZoneScans
+    sides: &mut [u8],
+    froms: &mut [u16],
+    limits: &mut [u32],
+)
     requires { ⌜ (n ≤ 256) × (h ≤ 256) × (m ≤ 256) × (m ≤ length (now starts)) × (h ≤ length (now ways)) × (h ≤ length (now ends)) ⌝ }
-    requires { ⌜ any (λ (z : Zone). leb h (z .«sup_idx»)) (take n zones) ≡ false ⌝ }
-    ensures { λ r. ⌜ ((c : Levels) → take h superiors ≡ c .superiors → Column startOf m (now (starts .entry)) (map (rangeOf c) (c .bigs)) → Column (λ (t : Triple). t .direction) h (now (ways .entry)) (c .superiors) → Column (λ (t : Triple). barOf (superiorEnd c t)) h (now (ends .entry)) (c .superiors) → Scanning c (take n zones) n (r .sides) (r .froms) (r .limits)) ⌝ }
+    requires { ⌜ (n ≤ length (now owners)) × (n ≤ length (now «zone_starts»)) × (n ≤ length (now «zone_ends»)) × ((i : ℕ) → i < n → getD (now owners) i 0 < h) ⌝ }
+    requires { ⌜ (length (now sides) ≡ 256) × (length (now froms) ≡ 256) × (length (now limits) ≡ 256) ⌝ }
+    ensures { λ _. ⌜ ((c : Levels) (zs : List Zone) → take h superiors ≡ c .superiors → Column startOf m (now (starts .entry)) (map (rangeOf c) (c .bigs)) → Column (λ (t : Triple). t .direction) h (now (ways .entry)) (c .superiors) → Column (λ (t : Triple). barOf (superiorEnd c t)) h (now (ends .entry)) (c .superiors) → Column (λ (y : Zone). y .«sup_idx») n (now (owners .entry)) zs → Column (λ (y : Zone). y .«start_bar») n (now («zone_starts» .entry)) zs → Column (λ (y : Zone). y .«end_bar») n (now («zone_ends» .entry)) zs → Scanning c zs n (now (sides .exit)) (now (froms .exit)) (now (limits .exit))) ⌝ }
 {
-    let of_zones = columns::zone_bars(zones, n);
-    let owners = of_zones.owners;
-    let zone_starts = of_zones.starts;
-    let mut sides = [0u8; 256];
-    let mut froms = [0u16; 256];
-    let mut limits = [0u32; 256];
     let mut i = 0;
     while i < n {
-        let z = zones[i];
-        let s = superiors[z.sup_idx as usize];
-        let b = bounds_of(z, s, starts, m, ways, ends, h, &owners, &zone_starts, n);
+        let owner = owners[i];
+        let s = superiors[owner as usize];
+        let b = bounds_of(
+            owner,
+            zone_ends[i],
+            s,
+            starts,
+            m,
+            ways,
+            ends,
+            h,
+            owners,
+            zone_starts,
+            n,
+        );
         sides[i] = s.direction;
         froms[i] = b.from;
         limits[i] = b.limit;
         i += 1;
-    }
-    ZoneScans {
-        sides,
-        froms,
-        limits,
-    }
-}
-
-// The columns of the bigs, directions and end bars, and the scans of the zones.
-pub struct Scans {
-    pub ways: [u8; 256],
-    pub ends: [u32; 256],
-    pub sides: [u8; 256],
-    pub froms: [u16; 256],
-    pub limits: [u32; 256],
-}
-
-// The scans of the first n zones, whose superiors are among the first h. The bigs are the first m, the slots have their ranges, and
-// the end bars of their end points are lent, so that no chart is copied.
-pub fn scans_of(
-    bigs: [Triple; 256],
-    slots: [Slot; 256],
-    points: &[u32],
-    m: usize,
-    superiors: [Triple; 256],
-    h: usize,
-    zones: [Zone; 256],
-    n: usize,
-) -> Scans
-    requires { ⌜ (m ≤ 256) × (m ≤ length (now points)) × (h ≤ 256) × (n ≤ 256) ⌝ }
-    requires { ⌜ any (λ (z : Zone). leb h (z .«sup_idx»)) (take n zones) ≡ false ⌝ }
-    ensures { λ r. ⌜ ((c : Levels) → take m bigs ≡ c .bigs → take h superiors ≡ c .superiors → rangesIn m slots ≡ map (rangeOf c) (c .bigs) → Column barOf m (now (points .entry)) (map (lastStroke c) (c .bigs)) → ScansOf c (take n zones) n m r) ⌝ }
-{
-    let ways = columns::ways_of(bigs, m);
-    let bars = columns::bars_of(slots, m);
-    let starts = bars.starts;
-    let ends = bars.ends;
-    let superior_ways = columns::ways_of(superiors, h);
-    let superior_ends = columns::superior_ends(superiors, h, points, m);
-    let of_zones = zone_scans(
-        zones,
-        n,
-        superiors,
-        h,
-        &starts,
-        m,
-        &superior_ways,
-        &superior_ends,
-    );
-    let sides = of_zones.sides;
-    let froms = of_zones.froms;
-    let limits = of_zones.limits;
-    Scans {
-        ways,
-        ends,
-        sides,
-        froms,
-        limits,
     }
 }
 

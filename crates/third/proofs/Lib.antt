@@ -1,4 +1,3 @@
-pub mod Hits
 pub mod ZoneMarks
 pub mod Anchors
 pub mod Repeats

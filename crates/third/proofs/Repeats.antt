@@ -1,22 +1,30 @@
 -- Repeats of bar and side: a mark's key, what a scan of keys finds, and the marks that are kept. Assumes nothing.
-use Prim.Native.Nat.{ℕ, _+_, _*_, _<_, _≤_}
+use Prim.Native.Nat.{ℕ, _+_, _*_, _%_, _<_, _≤_}
 use native.Mathlib.Omega.{arith}
 use native.Mathlib.Numerals.{add-one}
 use mathlib.Core.Path.{_≡_, refl, ap, sym, _∙_}
-use mathlib.Core.Bool.{Bool, true, false, _&&_, _||_, Bool·beq}
+use mathlib.Core.Bool.{Bool, true, false, _&&_, _||_, or-false, Bool·beq}
 use mathlib.Core.List.{List, [], _∷_, _++_, map, foldl}
-use lib.ListN.{length, getD, set, take, drop}
-use lib.Seq.{take-suc-set, take-set-lt, drop-set-lt}
+use lib.ListN.{length, getD, getElem?, set, take, drop}
+use lib.Ieee.{Float, nan}
+use mathlib.Core.Option.{some}
+use lib.Seq.{take-suc, take-suc-set, take-all}
 use lib.Dec.{eqb}
 use borrow.Author.Tests.{eq-eqb, ne-eqb, eqb-true, eqb-false}
+use Rattle.chart.specs.declared.Ground.{Ground}
+use Rattle.chart.specs.declared.Ground.the-variants as ground
 use Rattle.chart.specs.declared.ThirdMark.{ThirdMark}
 use Rattle.rules.specs.Answer.{rowsAnswer, given}
 use Rattle.rules.specs.Lists.{any}
 use Rattle.rules.specs.Marks.{addThird}
 use Rattle.laws.proofs.Answers.{given-rows}
 use Rattle.laws.proofs.Arrays.{left-more, left-none}
-use Rattle.laws.proofs.Lists.{map-append}
-use Rattle.third.specs.Third.{keyOf}
+use Rattle.columns.proofs.Fill as fill
+use Rattle.scan.proofs.Columns.{there}
+use Rattle.third.specs.Third.{keyOf, markKey, groundOf, isZone, groundPrice, markOf, Marked}
+
+abbrev pub no-mark : ThirdMark
+no-mark = record { «bar_index» = 0; price = nan; «is_buy» = false; ground = ground.Zone nan }
 
 -- ---- keys
 
@@ -41,26 +49,22 @@ key-same a b x y = go (eqb a b) refl x y
     go true e false true = ne-eqb (a * 2 + 0) (b * 2 + 1) (λ w. omega (arith, w))
     go false e false true = ne-eqb (a * 2 + 0) (b * 2 + 1) (λ w. omega (arith, w))
 
--- ---- whether one of the first n passes: those from place i on are left to look at
+-- ---- whether one of the first n passes: `met` is whether one before place i does, and those from there on are left to look at
 
-module _ {A : Type 0} (p : A → Bool) (n i : ℕ) (xs : List A) (all : Bool) (long : n ≤ length xs) (left : any p (drop i (take n xs)) ≡ all) where
-  pub any-none : n ≤ i → false ≡ all
-  any-none h = rw (left-none n i xs h long) at left
+or-assoc : (a b c : Bool) → ((a || b) || c) ≡ (a || (b || c))
+or-assoc true b c = refl
+or-assoc false b c = refl
 
-  module _ (d : A) (h : i < n) where
-    here : (p (getD xs i d) || any p (drop (i + 1) (take n xs))) ≡ all
-    here = rw (left-more n i xs d h long) at left
+module _
+    {A : Type 0} (p : A → Bool) (n i : ℕ) (xs : List A) (met all : Bool) (long : n ≤ length xs) (left : (met || any p (drop i (take n xs))) ≡ all)
+  where
+    pub any-none : n ≤ i → met ≡ all
+    any-none h = sym (or-false met) ∙ rw (left-none n i xs h long) at left
 
-    pub any-here : p (getD xs i d) ≡ true → true ≡ all
-    any-here e = rw e at here
-
-    pub any-pass : p (getD xs i d) ≡ false → any p (drop (i + 1) (take n xs)) ≡ all
-    any-pass e = rw e at here
+    pub any-more : (d : A) → i < n → (met || p (getD xs i d) || any p (drop (i + 1) (take n xs))) ≡ all
+    any-more d h = or-assoc met (p (getD xs i d)) (any p (drop (i + 1) (take n xs))) ∙ rw (left-more n i xs d h long) at left
 
 -- ---- the marks that are kept
-
-abbrev pub markKey : ThirdMark → ℕ
-markKey m = keyOf (m .«bar_index») (m .«is_buy»)
 
 any-keys :
     (ms : List ThirdMark) (m : ThirdMark)
@@ -78,53 +82,114 @@ module _ (ms : List ThirdMark) (m : ThirdMark) where
   unfolding addThird
   add-new e = rw (addThird, ← any-keys ms m, e)
 
--- of n marks, those before place i are looked at, and `count` of them are kept, in the first rows; the first keys are theirs
-pub record Kept (n i count : ℕ) (were rows : List ThirdMark) (keys : List ℕ) : Type 0 where
-  pub marks : foldl addThird (take count rows) (drop i (take n rows)) ≡ foldl addThird [] (take n were)
-  pub by-key : take count keys ≡ map markKey (take count rows)
+-- ---- one mark more in the columns
 
-pub kept-first : (n : ℕ) (rows : List ThirdMark) (keys : List ℕ) → Kept n 0 0 rows rows keys
-kept-first n rows keys = record { marks = refl; by-key = refl }
+pub marked-none : (keys bars : List ℕ) (prices grounds : List Float) (zoned : List Bool) → Marked 0 keys bars prices grounds zoned []
+marked-none keys bars prices grounds zoned =
+    record {
+      by-key = fill.fill-none _ keys [];
+      by-bar = fill.fill-none _ bars [];
+      by-price = fill.fill-none _ prices [];
+      by-ground = fill.fill-none _ grounds [];
+      by-kind = fill.fill-none _ zoned [];
+    }
 
-module _ (n i count : ℕ) (were rows : List ThirdMark) (keys : List ℕ) (long : n ≤ length rows) (kept : Kept n i count were rows keys) where
-  pub kept-all : n ≤ i → count ≤ n → rowsAnswer 0 count rows ≡ given (foldl addThird [] (take n were))
-  kept-all h few = given-rows rows count (omega arith) ∙ ap given (rw (left-none n i rows h long) at (kept .marks))
+module _
+    (count : ℕ) (keys bars : List ℕ) (prices grounds : List Float) (zoned : List Bool) (l : List ThirdMark)
+    (marked : Marked count keys bars prices grounds zoned l) (bar : ℕ) (x : Float) (buy zone : Bool) (p : Float) (key : ℕ)
+    (is-key : key ≡ keyOf bar buy) (r : Bool) (seen : r ≡ any (λ (k : ℕ). eqb k key) (take count keys))
+  where
+    abbrev m : ThirdMark
+    m = markOf bar x buy zone p
 
-  module _
-      (d : ThirdMark) (h : i < n) (key : ℕ) (is-key : key ≡ markKey (getD rows i d)) (r : Bool)
-      (seen : r ≡ any (λ (k : ℕ). eqb k key) (take count keys))
-    where
-      abbrev m : ThirdMark
-      m = getD rows i d
+    among : any (λ (k : ℕ). eqb k (markKey m)) (map markKey l) ≡ r
+    among = sym (rw (is-key, marked .by-key .are) at seen)
 
-      next : foldl addThird (addThird (take count rows) m) (drop (i + 1) (take n rows)) ≡ foldl addThird [] (take n were)
-      next = rw (left-more n i rows d h long) at (kept .marks)
+    pub put-repeat : r ≡ true → Marked count keys bars prices grounds zoned (addThird l m)
+    put-repeat e = rw (add-repeat l m (among ∙ e)) marked
 
-      among : any (λ (k : ℕ). eqb k (markKey m)) (map markKey (take count rows)) ≡ r
-      among = sym (rw (is-key, kept .by-key) at seen)
+    pub put-new :
+        count < length keys → count < length bars → count < length prices → count < length grounds → count < length zoned → r ≡ false
+        → Marked (count + 1) (set keys count key) (set bars count bar) (set prices count x) (set grounds count p) (set zoned count zone) (addThird l m)
+    put-new a b c d f e =
+        rw (add-new l m (among ∙ e))
+        (record {
+          by-key = fill.fill-more _ count keys l m key a is-key (marked .by-key);
+          by-bar = fill.fill-more _ count bars l m bar b refl (marked .by-bar);
+          by-price = fill.fill-more _ count prices l m x c refl (marked .by-price);
+          by-ground = fill.fill-more _ count grounds l m p d (price-back zone) (marked .by-ground);
+          by-kind = fill.fill-more _ count zoned l m zone f (kind-back zone) (marked .by-kind);
+        })
+      where
+        price-back : (z : Bool) → p ≡ groundPrice (groundOf z p)
+        price-back true = refl
+        price-back false = refl
 
-      pub kept-repeat : r ≡ true → Kept n (i + 1) count were rows keys
-      kept-repeat e = record { marks = rw (add-repeat (take count rows) m (among ∙ e)) at next; by-key = kept .by-key }
+        kind-back : (z : Bool) → z ≡ isZone (groundOf z p)
+        kind-back true = refl
+        kind-back false = refl
 
-      pub kept-new : count ≤ i → count < length keys → r ≡ false → Kept n (i + 1) (count + 1) were (set rows count m) (set keys count key)
-      kept-new few room e =
-          record {
-            marks =
-                rw (
-                  add-one count,
-                  take-suc-set rows count m (omega arith),
-                  take-set-lt n rows count m (omega arith),
-                  drop-set-lt (i + 1) (take n rows) count m (omega arith),
-                  ← add-new (take count rows) m (among ∙ e),
-                )
-                next;
-            by-key =
-                rw (
-                  add-one count,
-                  take-suc-set rows count m (omega arith),
-                  take-suc-set keys count key room,
-                  map-append markKey (take count rows) (m ∷ []),
-                  kept .by-key,
-                  is-key,
-                );
-          }
+-- ---- the rows of the columns
+
+-- a mark by its parts
+mark-back :
+    (m : ThirdMark)
+    → record { «bar_index» = m .«bar_index»; price = m .price; «is_buy» = eqb (markKey m % 2) 1; ground = groundOf (isZone (m .ground)) (groundPrice (m .ground)) }
+    ≡ m
+mark-back m = go (m .«bar_index») (m .price) (m .«is_buy») (m .ground)
+  where
+    go :
+        (bar : ℕ) (x : Float) (buy : Bool) (g : Ground)
+        → _≡_ {A = ThirdMark}
+        (record { «bar_index» = bar; price = x; «is_buy» = eqb (keyOf bar buy % 2) 1; ground = groundOf (isZone g) (groundPrice g) })
+        (record { «bar_index» = bar; price = x; «is_buy» = buy; ground = g })
+    go bar x true (ground.Zone p) = rw (eq-eqb ((bar * 2 + 1) % 2) 1 (omega arith))
+    go bar x true (ground.Anchor p) = rw (eq-eqb ((bar * 2 + 1) % 2) 1 (omega arith))
+    go bar x false (ground.Zone p) = rw (ne-eqb ((bar * 2 + 0) % 2) 1 (λ w. omega (arith, w)))
+    go bar x false (ground.Anchor p) = rw (ne-eqb ((bar * 2 + 0) % 2) 1 (λ w. omega (arith, w)))
+
+module _
+    (n i : ℕ) (keys bars : List ℕ) (prices grounds : List Float) (zoned : List Bool) (l : List ThirdMark)
+    (marked : Marked n keys bars prices grounds zoned l) (rows : List ThirdMark) (done : take i rows ≡ take i l)
+  where
+    marks-long : length l ≡ n
+    marks-long = fill.column-length _ n keys l (marked .by-key)
+
+    pub rows-next :
+        i < n → i < length rows → (g : Ground) → g ≡ groundOf (getD zoned i false) (getD grounds i nan)
+        → take (i + 1)
+        (set rows i (record { «bar_index» = getD bars i 0; price = getD prices i nan; «is_buy» = eqb (getD keys i 0 % 2) 1; ground = g }))
+        ≡ take (i + 1) l
+    rows-next h w g e =
+        let m = getD l i no-mark in
+        let at : getElem? l i ≡ some m = there l i no-mark (omega (arith, marks-long)) in
+        rw (
+          e,
+          fill.column-at _ n i keys l 0 m (marked .by-key) h at,
+          fill.column-at _ n i bars l 0 m (marked .by-bar) h at,
+          fill.column-at _ n i prices l nan m (marked .by-price) h at,
+          fill.column-at _ n i grounds l nan m (marked .by-ground) h at,
+          fill.column-at _ n i zoned l false m (marked .by-kind) h at,
+          mark-back m,
+          add-one i,
+          take-suc-set rows i m w,
+          take-suc l i no-mark (omega (arith, marks-long)),
+          done,
+        )
+
+    pub rows-all : n ≤ i → i ≤ n → n ≤ length rows → rowsAnswer 0 n rows ≡ given l
+    rows-all over most w =
+        let same : i ≡ n = omega arith in
+        given-rows rows n w ∙ ap given ((rw same at done) ∙ take-all n l (omega (arith, marks-long)))
+
+-- ---- marks that are added one after the other
+
+fold-more : (l done : List ThirdMark) (m : ThirdMark) → foldl addThird l (done ++ (m ∷ [])) ≡ addThird (foldl addThird l done) m
+fold-more l [] m = refl
+fold-more l (x ∷ done) m = fold-more (addThird l x) done m
+
+pub marked-more :
+    (count : ℕ) (keys bars : List ℕ) (prices grounds : List Float) (zoned : List Bool) (l done : List ThirdMark) (m : ThirdMark)
+    → Marked count keys bars prices grounds zoned (addThird (foldl addThird l done) m)
+    → Marked count keys bars prices grounds zoned (foldl addThird l (done ++ (m ∷ [])))
+marked-more count keys bars prices grounds zoned l done m w = rw (fold-more l done m) w

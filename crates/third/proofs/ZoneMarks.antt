@@ -6,8 +6,8 @@ use mathlib.Core.Path.{_≡_, ap, subst, _∙_}
 use mathlib.Core.Bool.{Bool, true, false, cond, not}
 use mathlib.Core.List.{List, [], _∷_, _++_, append-assoc, append-nil}
 use mathlib.Core.Option.{Option, none, some}
-use lib.ListN.{length, getD, take, drop, set}
-use lib.Seq.{take-suc-set}
+use lib.ListN.{length, getD, drop, drop-of-length-le}
+use lib.Seq.{drop-cons}
 use lib.Ieee.{Float}
 use Rattle.chart.specs.declared.Triple.{Triple}
 use Rattle.chart.specs.declared.Zone.{Zone}
@@ -26,16 +26,16 @@ use Rattle.rules.specs.Marks.{
   edgeOf,
   zoneThird,
 }
-use Rattle.laws.proofs.Arrays.{at-in, left-more, left-none}
 use Rattle.columns.specs.Columns.{Column}
 use Rattle.scan.specs.declared.Pair.{Pair}
 use Rattle.scan.specs.declared.Pair.the-variants as pair
 use Rattle.scan.specs.Scan.{reached, pairsBy, Later, ZoneScan, Scanning}
-use Rattle.scan.proofs.Columns.{records-none}
-use Rattle.third.specs.declared.Hit.{Hit}
-use Rattle.third.specs.declared.Hit.the-variants.{At, Nothing}
-use Rattle.third.specs.Third.{hitBar, Priced}
-use Rattle.third.proofs.Hits.{hit-first, hit-later}
+use Rattle.scan.proofs.Columns.{there, records-none}
+use Rattle.hits.specs.declared.Hit.{Hit}
+use Rattle.hits.specs.declared.Hit.the-variants.{At, Nothing}
+use Rattle.hits.specs.Found.{hitBar, Priced}
+use Rattle.third.specs.Third.{markOf}
+use Rattle.hits.proofs.Hits.{hit-first, hit-later}
 
 -- ---- one zone
 
@@ -114,38 +114,43 @@ module _ (c : Levels) (q : Quotes) (zs : List Zone) (z : Zone) where
       unfolding thirdAt
       third-hit bar x e p = rw (same-edge, p, ← scan .way) (third-some bar (scan-found ∙ ap hitBar e))
 
+-- the edge of a zone by its columns
+pub edge-by :
+    (d : ℕ) (edge low high : Float) (z : Zone) → edge ≡ cond (isUp d) high low → low ≡ z .zd → high ≡ z .zg → edge ≡ cond (isUp d) (z .zg) (z .zd)
+edge-by d edge low high z e l h = e ∙ rw (l, h)
+
 -- the zones from place i on are left
 module _
-    (c : Levels) (q : Quotes) (zones : List Zone) (n i count : ℕ) (rows all : List ThirdMark) (fits : n ≤ length zones)
-    (left : take count rows ++ each (zoneThird c q (take n zones)) (drop i (take n zones)) ≡ all)
+    (c : Levels) (q : Quotes) (zs : List Zone) (n i : ℕ) (done all : List ThirdMark) (long : length zs ≡ n)
+    (left : done ++ each (zoneThird c q zs) (drop i zs) ≡ all)
   where
-    pub zones-none : n ≤ i → take count rows ≡ all
-    zones-none h = rw (left-none n i zones h fits, append-nil) at left
+    pub zones-none : n ≤ i → done ≡ all
+    zones-none h = rw (drop-of-length-le zs {i = i} (omega arith), append-nil) at left
 
     module _
-        (h : i < n) (z₀ : Zone) (sides froms limits : List ℕ) (scans : Scanning c (take n zones) n sides froms limits) (edge : Float)
-        (edged : edge ≡ cond (isUp (getD sides i 0)) (getD zones i z₀ .zg) (getD zones i z₀ .zd)) (hit : Hit)
+        (h : i < n) (z₀ : Zone) (sides froms limits : List ℕ) (scans : Scanning c zs n sides froms limits) (edge : Float)
+        (edged : edge ≡ cond (isUp (getD sides i 0)) (getD zs i z₀ .zg) (getD zs i z₀ .zd)) (hit : Hit)
         (found :
         (stop : ℕ → Bool) → ((bar : ℕ) → stop bar ≡ reached (getD limits i 0) bar)
         → find (beats q (isUp (getD sides i 0)) edge) (pairEnds c stop (getD sides i 0) (drop (getD froms i 0) (c .bigs))) ≡ hitBar hit)
       where
         abbrev z : Zone
-        z = getD zones i z₀
+        z = getD zs i z₀
 
-        scan : ZoneScan c (take n zones) z (getD sides i 0) (getD froms i 0) (getD limits i 0)
-        scan = scans i z h (at-in n i zones z₀ h (omega arith))
+        scan : ZoneScan c zs z (getD sides i 0) (getD froms i 0) (getD limits i 0)
+        scan = scans i z h (there zs i z₀ (omega arith))
 
-        next-zone : take count rows ++ (zoneThird c q (take n zones) z ++ each (zoneThird c q (take n zones)) (drop (i + 1) (take n zones))) ≡ all
-        next-zone = rw (left-more n i zones z₀ h fits) at left
+        more : drop i zs ≡ z ∷ drop (i + 1) zs
+        more = rw (drop-cons zs i z₀ (omega arith), add-one i)
 
-        pub zone-pass : hit ≡ Nothing → take count rows ++ each (zoneThird c q (take n zones)) (drop (i + 1) (take n zones)) ≡ all
-        zone-pass e = rw (third-free c q (take n zones) z _ _ _ scan edge edged hit (found _ (scan .ends)) e) at next-zone
+        next-zone : done ++ (zoneThird c q zs z ++ each (zoneThird c q zs) (drop (i + 1) zs)) ≡ all
+        next-zone = rw more at left
+
+        pub zone-pass : hit ≡ Nothing → done ++ each (zoneThird c q zs) (drop (i + 1) zs) ≡ all
+        zone-pass e = rw (third-free c q zs z _ _ _ scan edge edged hit (found _ (scan .ends)) e) at next-zone
 
         pub zone-mark :
-            (bar : ℕ) (x : Float) → hit ≡ At bar x → x ≡ priceAt q (isUp (getD sides i 0)) bar → count < length rows
-            → take (count + 1) (set rows count (record { «bar_index» = bar; price = x; «is_buy» = isUp (getD sides i 0); ground = ground.Zone edge }))
-            ++ each (zoneThird c q (take n zones)) (drop (i + 1) (take n zones))
-            ≡ all
-        zone-mark bar x e p w =
-            rw (add-one count, take-suc-set rows count _ w, append-assoc)
-            (rw (third-hit c q (take n zones) z _ _ _ scan edge edged hit (found _ (scan .ends)) bar x e p) at next-zone)
+            (bar : ℕ) (x : Float) → hit ≡ At bar x → x ≡ priceAt q (isUp (getD sides i 0)) bar
+            → (done ++ (markOf bar x (isUp (getD sides i 0)) true edge ∷ [])) ++ each (zoneThird c q zs) (drop (i + 1) zs) ≡ all
+        zone-mark bar x e p =
+            rw append-assoc (rw (third-hit c q zs z _ _ _ scan edge edged hit (found _ (scan .ends)) bar x e p) at next-zone)

@@ -1,38 +1,42 @@
 -- What the structs of this crate stand for in the definition of third marks. Assumes nothing.
-use Prim.Native.Nat.{ℕ, _+_, _*_, _<_, _≤_}
-use mathlib.Core.Path.{_≡_}
-use mathlib.Core.Bool.{Bool, cond}
+use Prim.Native.Nat.{ℕ, _+_, _*_}
+use mathlib.Core.Bool.{Bool, true, false, cond}
 use mathlib.Core.List.{List}
-use mathlib.Core.Option.{Option, none, some}
-use lib.ListN.{length, take}
 use lib.Ieee.{Float}
 use Rattle.chart.specs.declared.ThirdMark.{ThirdMark}
-use Rattle.rules.specs.Records.{Quotes}
-use Rattle.rules.specs.Marks.{side, priceAt}
-use Rattle.third.specs.declared.Hit.{Hit}
-use Rattle.third.specs.declared.Hit.the-variants.{At, Nothing}
-use Rattle.third.specs.declared.Price.{Price}
-use Rattle.third.specs.declared.Price.the-variants as price
-use Rattle.third.specs.declared.Found.{Found}
-
-abbrev pub hitBar : Hit → Option ℕ
-hitBar (At bar x) = some bar
-hitBar Nothing = none
-
--- a hit has the lent price of its bar, which lies inside the slice
-abbrev pub Priced : Quotes → Bool → Hit → Type 0
-Priced q buy (At bar x) = (x ≡ priceAt q buy bar) × (bar < length (side q buy))
-Priced q buy Nothing = Unit {0}
-
-abbrev pub priceOf : Price → Option Float
-priceOf (price.At p) = some p
-priceOf price.Nowhere = none
-
--- r has the marks l
-pub record Holds (r : Found) (l : List ThirdMark) : Type 0 where
-  pub few : r .count ≤ 512
-  pub are : take (r .count) (r .rows) ≡ l
+use Rattle.chart.specs.declared.Ground.{Ground}
+use Rattle.chart.specs.declared.Ground.the-variants as ground
+use Rattle.columns.specs.Columns.{Column}
 
 -- the bar and the side of a mark, as one number
 abbrev pub keyOf : ℕ → Bool → ℕ
 keyOf bar buy = bar * 2 + cond buy 1 0
+
+abbrev pub markKey : ThirdMark → ℕ
+markKey m = keyOf (m .«bar_index») (m .«is_buy»)
+
+-- ---- marks in columns
+
+-- a ground by its kind and its price, and back
+abbrev pub groundOf : Bool → Float → Ground
+groundOf true p = ground.Zone p
+groundOf false p = ground.Anchor p
+
+abbrev pub isZone : Ground → Bool
+isZone (ground.Zone p) = true
+isZone (ground.Anchor p) = false
+
+abbrev pub groundPrice : Ground → Float
+groundPrice (ground.Zone p) = p
+groundPrice (ground.Anchor p) = p
+
+abbrev pub markOf : ℕ → Float → Bool → Bool → Float → ThirdMark
+markOf bar x buy zone p = record { «bar_index» = bar; price = x; «is_buy» = buy; ground = groundOf zone p }
+
+-- the first `count` places of the columns have the marks l
+pub record Marked (count : ℕ) (keys bars : List ℕ) (prices grounds : List Float) (zoned : List Bool) (l : List ThirdMark) : Type 0 where
+  pub by-key : Column markKey count keys l
+  pub by-bar : Column (λ (m : ThirdMark). m .«bar_index») count bars l
+  pub by-price : Column (λ (m : ThirdMark). m .price) count prices l
+  pub by-ground : Column (λ (m : ThirdMark). groundPrice (m .ground)) count grounds l
+  pub by-kind : Column (λ (m : ThirdMark). isZone (m .ground)) count zoned l

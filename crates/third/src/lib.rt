@@ -4,19 +4,19 @@ use chart::Ground;
 use chart::ThirdMark;
 use chart::Triple;
 use chart::Zone;
+use hits::Hit;
+use hits::Price;
 use scan::Pair;
-use scan::Quote;
-use scan::Scans;
 ghost use mathlib.Core.Path.{_≡_};
 ghost use mathlib.Core.Bool.{Bool, false, not, cond};
-ghost use mathlib.Core.List.{List, [], _∷_, _++_, map, foldl};
-ghost use mathlib.Core.Option.{some};
-ghost use Prim.Native.Nat.{ℕ, suc, _≤_, _<_};
-ghost use lib.ListN.{length, take, drop, getD};
-ghost use lib.Dec.{eqb};
+ghost use mathlib.Core.List.{List, [], _∷_, map, foldl};
+ghost use Prim.Native.Nat.{ℕ, suc, _+_, _≤_, _<_};
+ghost use lib.ListN.{length, take, drop};
+ghost use lib.Dec.{eqb, leb};
 ghost use lib.Ieee.{lt};
 ghost use Rattle.chart.specs.declared.Triple.{Triple};
 ghost use Rattle.chart.specs.declared.Stroke.{Stroke};
+ghost use Rattle.chart.specs.declared.Zone.{Zone};
 ghost use Rattle.chart.specs.declared.ThirdMark.{ThirdMark};
 ghost use Rattle.rules.specs.Answer.{rowsAnswer, given, refused};
 ghost use Rattle.rules.specs.Lists.{find, any, each, collect, isNone};
@@ -25,9 +25,10 @@ ghost use Rattle.rules.specs.Ranges.{rangeOf, lastStroke};
 ghost use Rattle.rules.specs.Zones.{overlapZones};
 ghost use Rattle.rules.specs.Marks.{beats, pairEnds, zoneThird, anchorPrice, anchorBars, anchorThird, addThird, thirdMarks};
 ghost use Rattle.rules.specs.Calls.{thirdCall};
-ghost use Rattle.columns.specs.Columns.{Column, endOf, barOf, Prices};
-ghost use Rattle.scan.specs.Scan.{reached, ScansOf, endsIn};
-ghost use Rattle.third.specs.Third.{hitBar, Priced, priceOf, Holds, keyOf};
+ghost use Rattle.columns.specs.Columns.{Column, startOf, endOf, barOf, Prices, BigColumns};
+ghost use Rattle.scan.specs.Scan.{reached, Scanning};
+ghost use Rattle.hits.specs.Found.{hitBar, Priced, Settled};
+ghost use Rattle.third.specs.Third.{keyOf, groundOf, markOf, Marked};
 
 // The answer of the third-mark call: a number, and where it is 0 the first `count` rows. The rows stand first: behind the numbers they
 // would have a gap before them, and the compiler would then copy them once more.
@@ -37,46 +38,108 @@ pub struct ThirdRows {
     pub count: u16,
 }
 
-// ---- hits
+// ---- marks in columns
 
-// A hit: its bar, and the lent price there.
-enum Hit {
-    At(usize, f64),
-    Nothing,
-}
-
-// Whether a lent price is beyond p: above for buys, below for sells.
-fn beyond(buy: bool, x: f64, p: f64) -> bool
-    ensures { λ r. ⌜ r ≡ cond buy (lt p x) (lt x p) ⌝ }
+// A mark's bar and side as one number.
+fn key_of(bar: u16, buy: bool) -> u32
+    ensures { λ r. ⌜ r ≡ keyOf bar buy ⌝ }
 {
     if buy {
-        return p < x;
+        return bar as u32 * 2 + 1;
     }
-    x < p
+    bar as u32 * 2
 }
 
-// The hit at a bar, if it is one. A bar outside the slice is no hit.
-fn hit_at(highs: &[f64], lows: &[f64], buy: bool, p: f64, bar: usize) -> Hit
-    ensures { λ r. ⌜ Priced (record { highs = now (highs .entry); lows = now (lows .entry) }) buy r ⌝ }
-    ensures { λ r. ⌜ find (beats (record { highs = now (highs .entry); lows = now (lows .entry) }) buy p) (bar ∷ []) ≡ hitBar r ⌝ }
+// Whether a key is among the first n. Every one is looked at, with no test that ends the loop, so that several can be taken at once.
+fn seen(keys: &[u32], n: usize, key: u32) -> bool
+    requires { ⌜ n ≤ length (now keys) ⌝ }
+    ensures { λ r. ⌜ r ≡ any (λ (k : ℕ). eqb k key) (take n (now (keys .entry))) ⌝ }
 {
-    let quote = scan::quote_at(highs, lows, buy, bar);
-    let Quote::At(x) = quote else {
-        return Hit::Nothing;
-    };
-    if beyond(buy, x, p) {
-        return Hit::At(bar, x);
+    let mut met = false;
+    let mut i = 0usize;
+    while i < n {
+        met = met | (keys[i] == key);
+        i += 1;
     }
-    Hit::Nothing
+    met
 }
 
-fn is_hit(hit: Hit) -> bool
-    ensures { λ r. ⌜ r ≡ not (isNone (hitBar hit)) ⌝ }
+// Puts a mark behind the first `count` of the lent columns, if its bar and side are not among theirs; how many there are then. So the first
+// of the marks of a bar and a side is kept, with its ground.
+fn put(
+    keys: &mut [u32],
+    bars: &mut [u16],
+    prices: &mut [f64],
+    grounds: &mut [f64],
+    zoned: &mut [bool],
+    count: usize,
+    bar: u16,
+    buy: bool,
+    x: f64,
+    p: f64,
+    zone: bool,
+) -> usize
+    requires { ⌜ (count < length (now keys)) × (count < length (now bars)) × (count < length (now prices)) × (count < length (now grounds)) × (count < length (now zoned)) ⌝ }
+    ensures { λ r. ⌜ (r ≤ count + 1) × (length (now (keys .exit)) ≡ length (now (keys .entry))) × (length (now (bars .exit)) ≡ length (now (bars .entry))) × (length (now (prices .exit)) ≡ length (now (prices .entry))) × (length (now (grounds .exit)) ≡ length (now (grounds .entry))) × (length (now (zoned .exit)) ≡ length (now (zoned .entry))) ⌝ }
+    ensures { λ r. ⌜ ((l : List ThirdMark) → Marked count (now (keys .entry)) (now (bars .entry)) (now (prices .entry)) (now (grounds .entry)) (now (zoned .entry)) l → Marked r (now (keys .exit)) (now (bars .exit)) (now (prices .exit)) (now (grounds .exit)) (now (zoned .exit)) (addThird l (markOf bar x buy zone p))) ⌝ }
 {
-    let Hit::At(bar, x) = hit else {
-        return false;
+    let key = key_of(bar, buy);
+    if seen(keys, count, key) {
+        return count;
+    }
+    keys[count] = key;
+    bars[count] = bar;
+    prices[count] = x;
+    grounds[count] = p;
+    zoned[count] = zone;
+    count + 1
+}
+
+// The ground of a mark: a zone's edge, or the price C of an anchor.
+fn ground_of(zone: bool, p: f64) -> Ground
+    ensures { λ r. ⌜ r ≡ groundOf zone p ⌝ }
+{
+    if zone {
+        return Ground::Zone(p);
+    }
+    Ground::Anchor(p)
+}
+
+// The first n marks of the columns, as rows.
+fn rows_of(
+    n: usize,
+    keys: &[u32],
+    bars: &[u16],
+    prices: &[f64],
+    grounds: &[f64],
+    zoned: &[bool],
+) -> ThirdRows
+    requires { ⌜ (n ≤ 512) × (n ≤ length (now keys)) × (n ≤ length (now bars)) × (n ≤ length (now prices)) × (n ≤ length (now grounds)) × (n ≤ length (now zoned)) ⌝ }
+    ensures { λ r. ⌜ ((l : List ThirdMark) → Marked n (now (keys .entry)) (now (bars .entry)) (now (prices .entry)) (now (grounds .entry)) (now (zoned .entry)) l → rowsAnswer (r .number) (r .count) (r .rows) ≡ given l) ⌝ }
+{
+    let none = ThirdMark {
+        bar_index: 0,
+        price: 0.0,
+        is_buy: false,
+        ground: Ground::Zone(0.0),
     };
-    true
+    let mut rows = [none; 512];
+    let mut i = 0usize;
+    while i < n {
+        let ground = ground_of(zoned[i], grounds[i]);
+        rows[i] = ThirdMark {
+            bar_index: bars[i],
+            price: prices[i],
+            is_buy: keys[i] % 2 == 1,
+            ground,
+        };
+        i += 1;
+    }
+    ThirdRows {
+        rows,
+        number: 0,
+        count: n as u16,
+    }
 }
 
 // ---- zones
@@ -104,8 +167,8 @@ fn zone_hit(
         let Pair::At(next, bar) = pair else {
             return Hit::Nothing;
         };
-        let hit = hit_at(highs, lows, buy, p, bar);
-        if is_hit(hit) {
+        let hit = hits::hit_at(highs, lows, buy, p, bar);
+        if hits::is_hit(hit) {
             return hit;
         }
         at = next;
@@ -114,111 +177,95 @@ fn zone_hit(
 }
 
 // The edge that a zone's mark beats: zg for a buy, zd for a sell.
-fn edge_of(d: u8, z: Zone) -> f64
-    ensures { λ r. ⌜ r ≡ cond (isUp d) (z .zg) (z .zd) ⌝ }
+fn edge_of(d: u8, zd: f64, zg: f64) -> f64
+    ensures { λ r. ⌜ r ≡ cond (isUp d) zg zd ⌝ }
 {
     if d == 1 {
-        return z.zg;
+        return zg;
     }
-    z.zd
+    zd
 }
 
-// Marks, in the first `count` rows.
-struct Found {
-    rows: [ThirdMark; 512],
-    count: usize,
-}
-
-// The marks of the first n zones, in order, with repeats.
+// The marks of n zones, in order, into the lent columns; how many they are. Lent are the scans of the zones and their edges.
 fn zone_marks(
-    zones: [Zone; 256],
-    n: usize,
-    scans: Scans,
+    ways: &[u8],
+    ends: &[u32],
     m: usize,
+    sides: &[u8],
+    froms: &[u16],
+    limits: &[u32],
+    zds: &[f64],
+    zgs: &[f64],
+    n: usize,
     highs: &[f64],
     lows: &[f64],
-) -> Found
-    requires { ⌜ (n ≤ 256) × (m ≤ 256) × (length (now highs) ≤ 65536) × (length (now lows) ≤ 65536) ⌝ }
-    ensures { λ r. ⌜ r .count ≤ n ⌝ }
-    ensures { λ r. ⌜ ((c : Levels) → ScansOf c (take n zones) n m scans → Holds r (each (zoneThird c (record { highs = now (highs .entry); lows = now (lows .entry) }) (take n zones)) (take n zones))) ⌝ }
+    keys: &mut [u32],
+    bars: &mut [u16],
+    prices: &mut [f64],
+    grounds: &mut [f64],
+    zoned: &mut [bool],
+) -> usize
+    requires { ⌜ (n ≤ 256) × (m ≤ 256) × (m ≤ length (now ways)) × (m ≤ length (now ends)) × (length (now highs) ≤ 65536) × (length (now lows) ≤ 65536) ⌝ }
+    requires { ⌜ (n ≤ length (now sides)) × (n ≤ length (now froms)) × (n ≤ length (now limits)) × (n ≤ length (now zds)) × (n ≤ length (now zgs)) ⌝ }
+    requires { ⌜ (length (now keys) ≡ 512) × (length (now bars) ≡ 512) × (length (now prices) ≡ 512) × (length (now grounds) ≡ 512) × (length (now zoned) ≡ 512) ⌝ }
+    ensures { λ r. ⌜ r ≤ n ⌝ }
+    ensures { λ r. ⌜ ((c : Levels) (zs : List Zone) → Column (λ (t : Triple). t .direction) m (now (ways .entry)) (c .bigs) → Column endOf m (now (ends .entry)) (map (rangeOf c) (c .bigs)) → Scanning c zs n (now (sides .entry)) (now (froms .entry)) (now (limits .entry)) → Column (λ (z : Zone). z .zd) n (now (zds .entry)) zs → Column (λ (z : Zone). z .zg) n (now (zgs .entry)) zs → Marked r (now (keys .exit)) (now (bars .exit)) (now (prices .exit)) (now (grounds .exit)) (now (zoned .exit)) (foldl addThird [] (each (zoneThird c (record { highs = now (highs .entry); lows = now (lows .entry) }) zs) zs))) ⌝ }
 {
-    let ways = scans.ways;
-    let ends = scans.ends;
-    let sides = scans.sides;
-    let froms = scans.froms;
-    let limits = scans.limits;
-    let none = ThirdMark {
-        bar_index: 0,
-        price: 0.0,
-        is_buy: false,
-        ground: Ground::Zone(0.0),
-    };
-    let mut rows = [none; 512];
     let mut count = 0usize;
     let mut i = 0usize;
     while i < n {
-        let z = zones[i];
         let d = sides[i];
-        let edge = edge_of(d, z);
-        let hit = zone_hit(&ways, &ends, m, d, limits[i], froms[i], edge, highs, lows);
+        let edge = edge_of(d, zds[i], zgs[i]);
+        let hit = zone_hit(ways, ends, m, d, limits[i], froms[i], edge, highs, lows);
         i += 1;
         let Hit::At(bar, x) = hit else {
             continue;
         };
-        rows[count] = ThirdMark {
-            bar_index: bar as u16,
-            price: x,
-            is_buy: d == 1,
-            ground: Ground::Zone(edge),
-        };
-        count += 1;
+        let zone = true;
+        count = put(
+            keys,
+            bars,
+            prices,
+            grounds,
+            zoned,
+            count,
+            bar as u16,
+            d == 1,
+            x,
+            edge,
+            zone,
+        );
     }
-    Found { count, rows }
+    count
 }
 
 // ---- anchors
 
-// The price C of an anchor, where there is one.
-enum Price {
-    At(f64),
-    Nowhere,
-}
-
-// The end price of the first big of the side's direction that ends after the anchor, whose end bar is `after` counted from 1.
-fn anchor_price(ways: &[u8], bars: &[u32], prices: &[f64], m: usize, buy: bool, after: u32) -> Price
-    requires { ⌜ (m ≤ length (now ways)) × (m ≤ length (now bars)) × (m ≤ length (now prices)) ⌝ }
-    ensures { λ r. ⌜ ((c : Levels) (a : Stroke) → Column (λ (t : Triple). t .direction) m (now (ways .entry)) (c .bigs) → Column barOf m (now (bars .entry)) (map (lastStroke c) (c .bigs)) → Prices (now (prices .entry)) (map (lastStroke c) (c .bigs)) → after ≡ suc (a .«end_bar») → priceOf r ≡ anchorPrice c buy a) ⌝ }
-{
-    let k = scan::next_end(ways, bars, m, buy, after, 0);
-    if m <= k {
-        return Price::Nowhere;
-    }
-    Price::At(prices[k])
-}
-
-// The first hit among the bigs of the other direction that end after the anchor.
+// The first hit among the bigs of the other direction that end after the anchor. No big before `from` does.
 fn anchor_hit(
     ways: &[u8],
     bars: &[u32],
     m: usize,
     buy: bool,
     after: u32,
+    from: usize,
     p: f64,
     highs: &[f64],
     lows: &[f64],
 ) -> Hit
     requires { ⌜ (m ≤ length (now ways)) × (m ≤ length (now bars)) × (m ≤ 256) ⌝ }
+    requires { ⌜ Settled (now bars) after from ⌝ }
     ensures { λ r. ⌜ Priced (record { highs = now (highs .entry); lows = now (lows .entry) }) buy r ⌝ }
     ensures { λ r. ⌜ ((c : Levels) (a : Stroke) → Column (λ (t : Triple). t .direction) m (now (ways .entry)) (c .bigs) → Column barOf m (now (bars .entry)) (map (lastStroke c) (c .bigs)) → after ≡ suc (a .«end_bar») → find (beats (record { highs = now (highs .entry); lows = now (lows .entry) }) buy p) (anchorBars c buy a) ≡ hitBar r) ⌝ }
 {
-    let mut k = 0usize;
+    let mut k = from;
     while k < m {
         let at = scan::next_end(ways, bars, m, !buy, after, k);
         if m <= at {
             return Hit::Nothing;
         }
-        let hit = hit_at(highs, lows, buy, p, scan::bar_at(bars[at]));
-        if is_hit(hit) {
+        let hit = hits::hit_at(highs, lows, buy, p, scan::bar_at(bars[at]));
+        if hits::is_hit(hit) {
             return hit;
         }
         k = at + 1;
@@ -226,103 +273,64 @@ fn anchor_hit(
     Hit::Nothing
 }
 
-// The marks of the anchors, the first n of m bigs, behind those that were found.
+// The marks of the anchors, the first n of m bigs, behind the first `found` of the lent columns; how many they are then.
 fn anchor_marks(
-    found: Found,
     n: usize,
     ways: &[u8],
-    bars: &[u32],
-    prices: &[f64],
+    ends: &[u32],
+    points: &[f64],
     m: usize,
     buy: bool,
     highs: &[f64],
     lows: &[f64],
-) -> Found
-    requires { ⌜ (found .count ≤ 256) × (n ≤ m) × (m ≤ 256) × (m ≤ length (now ways)) × (m ≤ length (now bars)) × (m ≤ length (now prices)) × (length (now highs) ≤ 65536) × (length (now lows) ≤ 65536) ⌝ }
-    ensures { λ r. ⌜ r .count ≤ 512 ⌝ }
-    ensures { λ r. ⌜ ((c : Levels) (l : List ThirdMark) → Column (λ (t : Triple). t .direction) m (now (ways .entry)) (c .bigs) → Column barOf m (now (bars .entry)) (map (lastStroke c) (c .bigs)) → Prices (now (prices .entry)) (map (lastStroke c) (c .bigs)) → Holds found l → Holds r (l ++ each (anchorThird c (record { highs = now (highs .entry); lows = now (lows .entry) }) buy) (collect (lastStroke c) (take n (c .bigs))))) ⌝ }
+    found: usize,
+    keys: &mut [u32],
+    bars: &mut [u16],
+    prices: &mut [f64],
+    grounds: &mut [f64],
+    zoned: &mut [bool],
+) -> usize
+    requires { ⌜ (found ≤ 256) × (n ≤ m) × (m ≤ 256) × (m ≤ length (now ways)) × (m ≤ length (now ends)) × (m ≤ length (now points)) × (length (now highs) ≤ 65536) × (length (now lows) ≤ 65536) ⌝ }
+    requires { ⌜ (length (now keys) ≡ 512) × (length (now bars) ≡ 512) × (length (now prices) ≡ 512) × (length (now grounds) ≡ 512) × (length (now zoned) ≡ 512) ⌝ }
+    ensures { λ r. ⌜ r ≤ 512 ⌝ }
+    ensures { λ r. ⌜ ((c : Levels) (l : List ThirdMark) → Column (λ (t : Triple). t .direction) m (now (ways .entry)) (c .bigs) → Column barOf m (now (ends .entry)) (map (lastStroke c) (c .bigs)) → Prices (now (points .entry)) (map (lastStroke c) (c .bigs)) → Marked found (now (keys .entry)) (now (bars .entry)) (now (prices .entry)) (now (grounds .entry)) (now (zoned .entry)) l → Marked r (now (keys .exit)) (now (bars .exit)) (now (prices .exit)) (now (grounds .exit)) (now (zoned .exit)) (foldl addThird l (each (anchorThird c (record { highs = now (highs .entry); lows = now (lows .entry) }) buy) (collect (lastStroke c) (take n (c .bigs)))))) ⌝ }
 {
-    let mut rows = found.rows;
-    let mut count = found.count;
+    let mut count = found;
+    // no big before `place` ends behind the anchor that ends at `last`
+    let mut last = 0u32;
+    let mut place = 0usize;
     let mut i = 0usize;
     while i < n {
-        let after = bars[i];
+        let after = ends[i];
         i += 1;
         if after == 0 {
             continue;
         }
-        let price = anchor_price(ways, bars, prices, m, buy, after);
+        place = hits::settled(ends, m, last, place, after);
+        last = after;
+        let price = hits::anchor_price(ways, ends, points, m, buy, after, place);
         let Price::At(p) = price else {
             continue;
         };
-        let hit = anchor_hit(ways, bars, m, buy, after, p, highs, lows);
+        let hit = anchor_hit(ways, ends, m, buy, after, place, p, highs, lows);
         let Hit::At(bar, x) = hit else {
             continue;
         };
-        rows[count] = ThirdMark {
-            bar_index: bar as u16,
-            price: x,
-            is_buy: buy,
-            ground: Ground::Anchor(p),
-        };
-        count += 1;
+        count = put(
+            keys,
+            bars,
+            prices,
+            grounds,
+            zoned,
+            count,
+            bar as u16,
+            buy,
+            x,
+            p,
+            false,
+        );
     }
-    Found { count, rows }
-}
-
-// ---- repeats
-
-// A mark's bar and side as one number.
-fn key_of(bar: u16, buy: bool) -> u32
-    ensures { λ r. ⌜ r ≡ keyOf bar buy ⌝ }
-{
-    if buy {
-        return bar as u32 * 2 + 1;
-    }
-    bar as u32 * 2
-}
-
-// Whether a key is among the first n.
-fn seen(keys: &[u32], n: usize, key: u32) -> bool
-    requires { ⌜ n ≤ length (now keys) ⌝ }
-    ensures { λ r. ⌜ r ≡ any (λ (k : ℕ). eqb k key) (take n (now (keys .entry))) ⌝ }
-{
-    let mut i = 0usize;
-    while i < n {
-        if keys[i] == key {
-            return true;
-        }
-        i += 1;
-    }
-    false
-}
-
-// The marks without repeats of bar and side: the first of them is kept, with its ground.
-fn unique(found: Found) -> ThirdRows
-    requires { ⌜ found .count ≤ 512 ⌝ }
-    ensures { λ r. ⌜ rowsAnswer (r .number) (r .count) (r .rows) ≡ given (foldl addThird [] (take (found .count) (found .rows))) ⌝ }
-{
-    let n = found.count;
-    let mut rows = found.rows;
-    let mut keys = [0u32; 512];
-    let mut count = 0usize;
-    let mut i = 0usize;
-    while i < n {
-        let m = rows[i];
-        i += 1;
-        let key = key_of(m.bar_index, m.is_buy);
-        if seen(&keys, count, key) {
-            continue;
-        }
-        rows[count] = m;
-        keys[count] = key;
-        count += 1;
-    }
-    ThirdRows {
-        number: 0,
-        count: count as u16,
-        rows,
-    }
+    count
 }
 
 // ---- the call
@@ -345,47 +353,187 @@ fn refusal(number: u8) -> ThirdRows
     }
 }
 
-// How many of the m bigs are anchors, for h superiors, of which s is the first: those before its first.
-fn anchor_count(h: u16, s: Triple, m: usize) -> usize
-    ensures { λ r. ⌜ r ≤ m ⌝ }
-    ensures { λ r. ⌜ ((bigs : List Triple) → length bigs ≡ m → take r bigs ≡ cond (eqb h 0) [] (take (s .first) bigs)) ⌝ }
-{
-    if h == 0 {
-        return 0;
-    }
-    let first = s.first as usize;
-    if first < m { first } else { m }
-}
-
-// The third marks of a chart whose zones are the first n of these and whose scans are given, with m bigs, of which the end points are
-// lent, and h superiors, of which s is the first. Where there is no anchor, the rows of the zones are not copied for anchors.
-fn marks_of(
+// The scans of the first n zones, whose superiors are among the first h, and their edges, into lent columns. Lent are the start bars and
+// the end points' bars of m bigs.
+pub fn scans_of(
     zones: [Zone; 256],
     n: usize,
-    scans: Scans,
+    superiors: [Triple; 256],
+    h: usize,
+    starts: &[u32],
+    points: &[u32],
     m: usize,
-    bars: &[u32],
-    prices: &[f64],
-    h: u16,
-    s: Triple,
+    sides: &mut [u8],
+    froms: &mut [u16],
+    limits: &mut [u32],
+    zds: &mut [f64],
+    zgs: &mut [f64],
+)
+    requires { ⌜ (n ≤ 256) × (h ≤ 256) × (m ≤ 256) × (m ≤ length (now starts)) × (m ≤ length (now points)) ⌝ }
+    requires { ⌜ (length (now sides) ≡ 256) × (length (now froms) ≡ 256) × (length (now limits) ≡ 256) × (length (now zds) ≡ 256) × (length (now zgs) ≡ 256) ⌝ }
+    requires { ⌜ any (λ (z : Zone). leb h (z .«sup_idx»)) (take n zones) ≡ false ⌝ }
+    ensures { λ _. ⌜ Column (λ (z : Zone). z .zd) n (now (zds .exit)) (take n zones) × Column (λ (z : Zone). z .zg) n (now (zgs .exit)) (take n zones) ⌝ }
+    ensures { λ _. ⌜ ((c : Levels) → take h superiors ≡ c .superiors → Column startOf m (now (starts .entry)) (map (rangeOf c) (c .bigs)) → Column barOf m (now (points .entry)) (map (lastStroke c) (c .bigs)) → Scanning c (take n zones) n (now (sides .exit)) (now (froms .exit)) (now (limits .exit))) ⌝ }
+{
+    let mut owners = [0u16; 256];
+    let mut zone_starts = [0u16; 256];
+    let mut zone_ends = [0u16; 256];
+    columns::zone_columns(
+        zones,
+        n,
+        &mut owners,
+        &mut zone_starts,
+        &mut zone_ends,
+        zds,
+        zgs,
+    );
+    let ways = columns::ways_of(superiors, h);
+    let ends = columns::superior_ends(superiors, h, points, m);
+    scan::zone_scans(
+        &owners,
+        &zone_starts,
+        &zone_ends,
+        n,
+        superiors,
+        h,
+        starts,
+        m,
+        &ways,
+        &ends,
+        sides,
+        froms,
+        limits,
+    );
+}
+
+// The third marks of n zones, whose scans and edges are lent, and of the first k of m bigs, whose columns are lent, as anchors.
+pub fn marks_by(
+    sides: &[u8],
+    froms: &[u16],
+    limits: &[u32],
+    zds: &[f64],
+    zgs: &[f64],
+    n: usize,
+    ways: &[u8],
+    ends: &[u32],
+    points: &[u32],
+    point_prices: &[f64],
+    m: usize,
+    k: usize,
+    buy: bool,
     highs: &[f64],
     lows: &[f64],
 ) -> ThirdRows
-    requires { ⌜ (n ≤ 256) × (m ≤ 256) × (m ≤ length (now bars)) × (m ≤ length (now prices)) × (length (now highs) ≤ 65536) × (length (now lows) ≤ 65536) ⌝ }
-    ensures { λ r. ⌜ ((c : Levels) (sups : List Triple) (d : Triple) → ScansOf c (take n zones) n m scans → take n zones ≡ overlapZones c → length (c .bigs) ≡ m → Column barOf m (now (bars .entry)) (map (lastStroke c) (c .bigs)) → Prices (now (prices .entry)) (map (lastStroke c) (c .bigs)) → take h sups ≡ c .superiors → 0 < length sups → s ≡ getD sups 0 d → rowsAnswer (r .number) (r .count) (r .rows) ≡ given (thirdMarks c (record { highs = now (highs .entry); lows = now (lows .entry) }))) ⌝ }
+    requires { ⌜ (n ≤ 256) × (m ≤ 256) × (k ≤ m) × (length (now highs) ≤ 65536) × (length (now lows) ≤ 65536) ⌝ }
+    requires { ⌜ (m ≤ length (now ways)) × (m ≤ length (now ends)) × (m ≤ length (now points)) × (m ≤ length (now «point_prices»)) ⌝ }
+    requires { ⌜ (n ≤ length (now sides)) × (n ≤ length (now froms)) × (n ≤ length (now limits)) × (n ≤ length (now zds)) × (n ≤ length (now zgs)) ⌝ }
+    ensures { λ r. ⌜ ((c : Levels) (zs : List Zone) → Column (λ (t : Triple). t .direction) m (now (ways .entry)) (c .bigs) → Column endOf m (now (ends .entry)) (map (rangeOf c) (c .bigs)) → Column barOf m (now (points .entry)) (map (lastStroke c) (c .bigs)) → Prices (now («point_prices» .entry)) (map (lastStroke c) (c .bigs)) → Scanning c zs n (now (sides .entry)) (now (froms .entry)) (now (limits .entry)) → Column (λ (z : Zone). z .zd) n (now (zds .entry)) zs → Column (λ (z : Zone). z .zg) n (now (zgs .entry)) zs → rowsAnswer (r .number) (r .count) (r .rows) ≡ given (foldl addThird (foldl addThird [] (each (zoneThird c (record { highs = now (highs .entry); lows = now (lows .entry) }) zs) zs)) (each (anchorThird c (record { highs = now (highs .entry); lows = now (lows .entry) }) buy) (collect (lastStroke c) (take k (c .bigs)))))) ⌝ }
 {
-    let found = zone_marks(zones, n, scans, m, highs, lows);
-    let k = anchor_count(h, s, m);
-    if k == 0 {
-        return unique(found);
-    }
-    let ways = scans.ways;
-    let buy = s.direction == 1;
-    unique(anchor_marks(found, k, &ways, bars, prices, m, buy, highs, lows))
+    let mut keys = [0u32; 512];
+    let mut bars = [0u16; 512];
+    let mut prices = [0.0; 512];
+    let mut grounds = [0.0; 512];
+    let mut zoned = [false; 512];
+    let count = zone_marks(
+        ways,
+        ends,
+        m,
+        sides,
+        froms,
+        limits,
+        zds,
+        zgs,
+        n,
+        highs,
+        lows,
+        &mut keys,
+        &mut bars,
+        &mut prices,
+        &mut grounds,
+        &mut zoned,
+    );
+    let all = anchor_marks(
+        k,
+        ways,
+        points,
+        point_prices,
+        m,
+        buy,
+        highs,
+        lows,
+        count,
+        &mut keys,
+        &mut bars,
+        &mut prices,
+        &mut grounds,
+        &mut zoned,
+    );
+    rows_of(all, &keys, &bars, &prices, &grounds, &zoned)
 }
 
-// The third marks of a chart's overlap zones and anchors: 21, then 8, 1, and 11 where there are more than 256 zones. The ranges and end
-// points of the bigs are worked out once, for the zones and for the marks.
+// The third marks of a chart whose zones are the first n of these, with h superiors. Lent are the columns of its m bigs.
+fn marks_of(
+    zones: [Zone; 256],
+    n: usize,
+    superiors: [Triple; 256],
+    h: usize,
+    ways: &[u8],
+    starts: &[u32],
+    ends: &[u32],
+    points: &[u32],
+    point_prices: &[f64],
+    m: usize,
+    highs: &[f64],
+    lows: &[f64],
+) -> ThirdRows
+    requires { ⌜ (n ≤ 256) × (h ≤ 256) × (m ≤ 256) × (length (now highs) ≤ 65536) × (length (now lows) ≤ 65536) ⌝ }
+    requires { ⌜ (m ≤ length (now ways)) × (m ≤ length (now starts)) × (m ≤ length (now ends)) × (m ≤ length (now points)) × (m ≤ length (now «point_prices»)) ⌝ }
+    requires { ⌜ any (λ (z : Zone). leb h (z .«sup_idx»)) (take n zones) ≡ false ⌝ }
+    ensures { λ r. ⌜ ((c : Levels) → BigColumns c m (now (ways .entry)) (now (starts .entry)) (now (ends .entry)) (now (points .entry)) (now («point_prices» .entry)) → take h superiors ≡ c .superiors → take n zones ≡ overlapZones c → rowsAnswer (r .number) (r .count) (r .rows) ≡ given (thirdMarks c (record { highs = now (highs .entry); lows = now (lows .entry) }))) ⌝ }
+{
+    let mut sides = [0u8; 256];
+    let mut froms = [0u16; 256];
+    let mut limits = [0u32; 256];
+    let mut zds = [0.0; 256];
+    let mut zgs = [0.0; 256];
+    scans_of(
+        zones,
+        n,
+        superiors,
+        h,
+        starts,
+        points,
+        m,
+        &mut sides,
+        &mut froms,
+        &mut limits,
+        &mut zds,
+        &mut zgs,
+    );
+    let s = superiors[0];
+    let k = hits::anchor_count(h, s, m);
+    let buy = s.direction == 1;
+    marks_by(
+        &sides,
+        &froms,
+        &limits,
+        &zds,
+        &zgs,
+        n,
+        ways,
+        ends,
+        points,
+        point_prices,
+        m,
+        k,
+        buy,
+        highs,
+        lows,
+    )
+}
+
+// The third marks of a chart's overlap zones and anchors: 21, then 8, 1, and 11 where there are more than 256 zones. The chart is passed
+// over once, and what is worked out stands in columns, which are lent.
 pub fn bigseg_third_marks_all_zhongshu(chart: Chart, highs: &[f64], lows: &[f64]) -> ThirdRows
     ensures { λ r. ⌜ rowsAnswer (r .number) (r .count) (r .rows) ≡ thirdCall chart (record { highs = now (highs .entry); lows = now (lows .entry) }) ⌝ }
 {
@@ -398,30 +546,31 @@ pub fn bigseg_third_marks_all_zhongshu(chart: Chart, highs: &[f64], lows: &[f64]
     }
     let m = chart.big_count as usize;
     let h = chart.superior_count as usize;
-    let ranges = levels::ranges_of(chart);
-    let slots = ranges.slots;
     let superiors = chart.superiors;
     let bigs = chart.bigs;
+    let mut ways = [0u8; 256];
+    let mut from = [0u32; 256];
+    let mut to = [0u32; 256];
+    let mut bars = [0u32; 256];
+    let mut prices = [0.0; 256];
+    let slots = columns::bigs_of(chart, &mut ways, &mut from, &mut to, &mut bars, &mut prices);
     let found = zones::overlap(superiors, h, bigs, m, slots);
     if found.number != 0 {
         return refusal(found.number);
     }
     let n = found.count as usize;
     let zones = found.rows;
-    let points = columns::points_of(chart);
-    let bars = points.bars;
-    let prices = points.prices;
-    let scans = scan::scans_of(bigs, slots, &bars, m, superiors, h, zones, n);
-    let s = superiors[0];
     marks_of(
         zones,
         n,
-        scans,
-        m,
+        superiors,
+        h,
+        &ways,
+        &from,
+        &to,
         &bars,
         &prices,
-        chart.superior_count,
-        s,
+        m,
         highs,
         lows,
     )

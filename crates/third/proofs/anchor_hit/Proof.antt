@@ -13,21 +13,24 @@ use Rattle.rules.specs.Records.{Levels}
 use Rattle.rules.specs.Ranges.{lastStroke}
 use Rattle.rules.specs.Marks.{beats, anchorBars}
 use Rattle.columns.specs.Columns.{Column, barOf}
-use Rattle.third.proofs.Anchors.{barsIn, bars-all, bars-none, bars-over, bars-hit, bars-missed}
+use Rattle.hits.proofs.Ends.{barsIn, bars-settled}
+use Rattle.third.proofs.Anchors.{bars-none, bars-over, bars-hit, bars-missed}
 use Rattle.third.proofs.anchor_hit.Statement.{statement}
 use Rattle.third.proofs.anchor_hit.Tie as tie
 
 abbrev Inv-loop : tie.InvT-loop
-Inv-loop ways bars m buy after p highs lows k₀ k =
+Inv-loop ways bars m buy after from p highs lows k₀ k =
     (l : Levels) (a : Stroke) → Column (λ (t : Triple). t .direction) m ways (l .bigs) → Column barOf m bars (map (lastStroke l) (l .bigs)) → after ≡ suc (a .«end_bar»)
     → find (beats (record { highs = highs; lows = lows }) buy p) (anchorBars l buy a)
     ≡ find (beats (record { highs = highs; lows = lows }) buy p) (barsIn l buy a (drop k (l .bigs)))
 
 abbrev μ-loop : tie.MeasureT-loop
-μ-loop ways bars m buy after p highs lows k₀ k = m - k
+μ-loop ways bars m buy after from p highs lows k₀ k = m - k
 
 loop-holds : tie.Need-loop-holds Inv-loop μ-loop
-loop-holds c = λ l a w b e. ap (find (beats _ _ _)) (bars-all l _ a)
+loop-holds c =
+    let start = c .before .before .before .before in
+    λ l a w b e. ap (find (beats _ _ _)) (bars-settled l _ a _ _ _ _ _ w b e (start .pre .1))
 
 abbrev start : tie.At-loop Inv-loop μ-loop → tie.Start Inv-loop μ-loop
 start c = c .before .before .before .before .before
@@ -43,7 +46,7 @@ returns : tie.Need-returns Inv-loop μ-loop
 returns c =
     let at-end = c .before in
     let head = at-end .before .before in
-    (tt, λ l a w b e. bars-over l (beat (start head)) (start head .args .buy) a _ _ (head .loop .k) _ _ w b e _ (head .loop .inv l a w b e) _ (at-end .next-end .ensures .1 l (a .«end_bar») w b e) (c .if1 .taken))
+    (tt, λ l a w b e. bars-over l (beat (start head)) (start head .args .buy) a _ (head .loop .k) _ _ w b _ (head .loop .inv l a w b e) _ (at-end .next-end .ensures .1 l (a .«end_bar») w b e) (c .if1 .taken))
 
 mul-bar-at : tie.Need-mul-bar-at Inv-loop μ-loop
 mul-bar-at c = search needs
@@ -71,7 +74,7 @@ returns-2 c =
     let at-end = at-if .before in
     let head = at-end .before .before in (
       at-hit .hit-at .ensures .0,
-      λ l a w b e. bars-hit l (beat (start head)) (start head .args .buy) a _ _ (head .loop .k) _ _ w b e _ (head .loop .inv l a w b e) _ (at-end .next-end .ensures .1 l (a .«end_bar») w b e) (at-if .if1 .left) _
+      λ l a w b e. bars-hit l (beat (start head)) (start head .args .buy) a _ (head .loop .k) _ _ w b _ (head .loop .inv l a w b e) _ (at-end .next-end .ensures .1 l (a .«end_bar») w b e) (at-if .if1 .left) _
           (at-bar .bar-at .ensures) (at-hit .hit-at .result) (at-hit .hit-at .ensures .1) _ (c .before .is-hit .ensures) (c .if2 .taken),
     )
 
@@ -92,13 +95,13 @@ loop-again c =
     let at-if = at-bar .before .before in
     let at-end = at-if .before in
     let head = at-end .before .before in
-    λ l a w b e. bars-missed l (beat (start head)) (start head .args .buy) a _ _ (head .loop .k) _ _ w b e _ (head .loop .inv l a w b e) _ (at-end .next-end .ensures .1 l (a .«end_bar») w b e) (at-if .if1 .left) _
+    λ l a w b e. bars-missed l (beat (start head)) (start head .args .buy) a _ (head .loop .k) _ _ w b _ (head .loop .inv l a w b e) _ (at-end .next-end .ensures .1 l (a .«end_bar») w b e) (at-if .if1 .left) _
     (at-bar .bar-at .ensures) (at-hit .hit-at .result) (at-hit .hit-at .ensures .1) _ (c .before .is-hit .ensures) (c .if2 .left)
 
 returns-3 : tie.Need-returns-3 Inv-loop μ-loop
 returns-3 c =
     let head = c .before in
-    (tt, λ l a w b e. bars-none l (beat (start head)) (start head .args .buy) a _ _ (head .loop .k) _ _ w b e _ (head .loop .inv l a w b e) (c .loop-test .left))
+    (tt, λ l a w b e. bars-none l (beat (start head)) (start head .args .buy) a _ (head .loop .k) _ _ w b _ (head .loop .inv l a w b e) (c .loop-test .left))
 
 pub anchor-hit-spec : {M : Type 1} → statement M
 anchor-hit-spec =

@@ -1,79 +1,113 @@
 -- `third::marks_of` meets its contract. Assumes nothing.
 use native.Mathlib.Omega.{arith}
-use mathlib.Core.Path.{_≡_, ap, _∙_}
-use Prim.Native.Nat.{_≤_}
+use mathlib.Core.Path.{_≡_, refl, ap, _∙_}
 use lib.ListN.{length}
 use borrow.Author.Needs.{needs}
+use Rattle.chart.specs.declared.Triple.{Triple}
 use Rattle.rules.specs.Answer.{given}
-use Rattle.third.proofs.Call.{anchors-by, marks-are, marks-alone}
+use Rattle.columns.proofs.Fill.{column-length}
+use Rattle.levels.proofs.Read.{no-triple}
+use Rattle.rules.specs.Marks.{anchorThird}
+use Rattle.hits.proofs.Ends.{anchors-by}
+use Rattle.third.proofs.Call.{marks-both}
 use Rattle.third.proofs.marks_of.Statement.{statement}
 use Rattle.third.proofs.marks_of.Tie as tie
 
-ways-long : (c : tie.Start) → c .args .m ≤ length (c .args .scans .ways)
-ways-long c = let long : length (c .args .scans .ways) ≡ 256 = search needs in omega (arith, c .pre .1)
+superiors-long : (c : tie.Start) → length (c .args .t3) ≡ 256
+superiors-long c = search needs
 
-zone-marks-requires : tie.Need-zone-marks-requires
-zone-marks-requires c κs = search needs
+slice-aggregate-scans-of : tie.Need-slice-aggregate-scans-of
+slice-aggregate-scans-of c = search needs
+
+slice-aggregate-scans-of-2 : tie.Need-slice-aggregate-scans-of-2
+slice-aggregate-scans-of-2 c = search needs
+
+slice-aggregate-scans-of-3 : tie.Need-slice-aggregate-scans-of-3
+slice-aggregate-scans-of-3 c = search needs
+
+slice-aggregate-scans-of-4 : tie.Need-slice-aggregate-scans-of-4
+slice-aggregate-scans-of-4 c = search needs
+
+slice-aggregate-scans-of-5 : tie.Need-slice-aggregate-scans-of-5
+slice-aggregate-scans-of-5 c = search needs
+
+scans-of-requires : tie.Need-scans-of-requires
+scans-of-requires c κs =
+    let s = c .before .before .before .before .before .before .before .before .before .before .before .before in
+    let few = s .pre .0 in
+    let long = s .pre .1 .0 in
+    ((few .0, few .1, few .2, long .1, long .3), ((refl, refl, refl, refl, refl), s .pre .1 .1))
+
+array-copy-out-s : tie.Need-array-copy-out-s
+array-copy-out-s c = search needs
 
 anchor-count-requires : tie.Need-anchor-count-requires
 anchor-count-requires c κs = search needs
 
-unique-requires : tie.Need-unique-requires
-unique-requires c κs = search needs
+slice-aggregate-marks-by : tie.Need-slice-aggregate-marks-by
+slice-aggregate-marks-by c = search needs
+
+slice-aggregate-marks-by-2 : tie.Need-slice-aggregate-marks-by-2
+slice-aggregate-marks-by-2 c = search needs
+
+slice-aggregate-marks-by-3 : tie.Need-slice-aggregate-marks-by-3
+slice-aggregate-marks-by-3 c = search needs
+
+slice-aggregate-marks-by-4 : tie.Need-slice-aggregate-marks-by-4
+slice-aggregate-marks-by-4 c = search needs
+
+slice-aggregate-marks-by-5 : tie.Need-slice-aggregate-marks-by-5
+slice-aggregate-marks-by-5 c = search needs
+
+marks-by-requires : tie.Need-marks-by-requires
+marks-by-requires c κs =
+    let at-scans = c .before .before .before .before .before .before .before .before .before .before .before .before .before in
+    let s = at-scans .before .before .before .before .before .before .before .before .before .before .before .before .before in
+    let few = s .pre .0 in
+    let long = s .pre .1 .0 in
+    let edges = at-scans .scans-of .ensures .0 in (
+      (few .0, few .2, c .before .before .before .before .before .before .anchor-count .ensures .0, few .3, few .4),
+      (
+        (long .0, long .2, long .3, long .4),
+        (
+          omega (arith, slice-aggregate-marks-by (c .before .before .before .before), few .0),
+          omega (arith, slice-aggregate-marks-by-2 (c .before .before .before), few .0),
+          omega (arith, slice-aggregate-marks-by-3 (c .before .before), few .0),
+          edges .0 .long,
+          edges .1 .long,
+        ),
+      ),
+    )
 
 returns : tie.Need-returns
 returns c =
-    let at-count = c .before .before in
-    let at-marks = at-count .before in
-    let start = at-marks .before .before .before .before .before in
-    λ l sups d scans zones size bars prices level some first.
-    c .unique .ensures
+    let at-count = c .before .before .before .before .before .before .before in
+    let at-scans = c .before .before .before .before .before .before .before .before .before .before .before .before .before .before in
+    let s = at-scans .before .before .before .before .before .before .before .before .before .before .before .before .before in
+    let edges = at-scans .scans-of .ensures .0 in
+    λ l bigs level are.
+    c .marks-by .ensures l _ (bigs .by-way) (bigs .by-end) (bigs .by-point) (bigs .by-price) (at-scans .scans-of .ensures .1 l level (bigs .by-start) (bigs .by-point)) (edges .0) (edges .1)
     ∙ ap given
-    (marks-alone l _ _ _ _ (at-count .anchor-count .result) zones (at-marks .zone-marks .ensures .1 l scans .are) (c .before .if1 .taken)
-    (anchors-by l _ (start .args .h) sups d (at-count .anchor-count .result) _ level some first (at-count .anchor-count .ensures .1 _ size)))
-
-slice-aggregate-anchor-marks : tie.Need-slice-aggregate-anchor-marks
-slice-aggregate-anchor-marks c = search needs
-
-anchor-marks-requires : tie.Need-anchor-marks-requires
-anchor-marks-requires c κs =
-    let at-count = c .before .before .before .before in
-    let at-marks = at-count .before in
-    let start = at-marks .before .before .before .before .before in (
-      omega (arith, at-marks .zone-marks .ensures .0, start .pre .0),
-      at-count .anchor-count .ensures .0,
-      start .pre .1,
-      ways-long start,
-      start .pre .2,
-      start .pre .3,
-      start .pre .4,
-      start .pre .5,
-    )
-
-unique-requires-2 : tie.Need-unique-requires-2
-unique-requires-2 c κs = c .anchor-marks .ensures .0
-
-returns-2 : tie.Need-returns-2
-returns-2 c =
-    let at-anchors = c .before in
-    let at-count = at-anchors .before .before .before .before .before in
-    let at-marks = at-count .before in
-    let start = at-marks .before .before .before .before .before in
-    λ l sups d scans zones size bars prices level some first.
-    c .unique2 .ensures
-    ∙ ap given
-    (marks-are l _ _ _ _ zones (at-anchors .anchor-marks .ensures .1 l _ (scans .ways) bars prices (at-marks .zone-marks .ensures .1 l scans) .are)
-    (anchors-by l _ (start .args .h) sups d (at-count .anchor-count .result) _ level some first (at-count .anchor-count .ensures .1 _ size)))
+    (marks-both l _ _ _ are
+    (anchors-by (anchorThird l _) l (s .args .h) (s .args .t3) no-triple (at-count .anchor-count .result) _ level (omega (arith, superiors-long s)) refl
+    (at-count .anchor-count .ensures .1 _ (column-length (λ (t : Triple). t .direction) _ _ _ (bigs .by-way)))))
 
 pub marks-of-spec : {M : Type 1} → statement M
 marks-of-spec =
     tie.close
     (tie.spec
-    zone-marks-requires
+    slice-aggregate-scans-of
+    slice-aggregate-scans-of-2
+    slice-aggregate-scans-of-3
+    slice-aggregate-scans-of-4
+    slice-aggregate-scans-of-5
+    scans-of-requires
+    array-copy-out-s
     anchor-count-requires
-    unique-requires
-    returns
-    slice-aggregate-anchor-marks
-    anchor-marks-requires
-    unique-requires-2
-    returns-2)
+    slice-aggregate-marks-by
+    slice-aggregate-marks-by-2
+    slice-aggregate-marks-by-3
+    slice-aggregate-marks-by-4
+    slice-aggregate-marks-by-5
+    marks-by-requires
+    returns)

@@ -1,37 +1,31 @@
--- `third::seen` meets its contract. The invariant: whether the key is among those that are left is whether it is among all. Assumes nothing.
+-- `third::seen` meets its contract. The invariant: whether the key was met or is among those that are left is whether it is among all. Assumes nothing.
 use Prim.Native.Nat.{ℕ, _-_, _≤_}
 use native.Mathlib.Omega.{arith}
 use mathlib.Core.Path.{_≡_, refl}
+use mathlib.Core.Bool.{_||_}
 use lib.ListN.{take, drop}
 use lib.Dec.{eqb}
-use borrow.Author.Tests.{eq-eqb, ne-eqb}
 use borrow.Author.Needs.{needs}
 use Rattle.rules.specs.Lists.{any}
-use Rattle.third.proofs.Repeats.{any-here, any-pass, any-none}
+use Rattle.third.proofs.Repeats.{any-more, any-none}
 use Rattle.third.proofs.seen.Statement.{statement}
 use Rattle.third.proofs.seen.Tie as tie
 
 abbrev Inv-loop : tie.InvT-loop
-Inv-loop keys n key i₀ i =
-    (i ≤ n) × (any (λ (k : ℕ). eqb k key) (drop i (take n keys)) ≡ any (λ (k : ℕ). eqb k key) (take n keys))
+Inv-loop keys n key met₀ i₀ met i =
+    (i ≤ n) × ((met || any (λ (k : ℕ). eqb k key) (drop i (take n keys))) ≡ any (λ (k : ℕ). eqb k key) (take n keys))
 
 abbrev μ-loop : tie.MeasureT-loop
-μ-loop keys n key i₀ i = n - i
+μ-loop keys n key met₀ i₀ met i = n - i
 
 loop-holds : tie.Need-loop-holds Inv-loop μ-loop
 loop-holds c = (omega arith, refl)
 
-mul-if1 : tie.Need-mul-if1 Inv-loop μ-loop
-mul-if1 c = search needs
+mul-met : tie.Need-mul-met Inv-loop μ-loop
+mul-met c = search needs
 
-shared-slice-read-if1 : tie.Need-shared-slice-read-if1 Inv-loop μ-loop
-shared-slice-read-if1 c = search needs
-
-returns : tie.Need-returns Inv-loop μ-loop
-returns c =
-    let in-loop = c .before .before in
-    let head = in-loop .before in
-    any-here _ _ (head .loop .i) _ _ (head .before .pre) (head .loop .inv .1) _ (in-loop .loop-test .taken) (eq-eqb _ _ (c .if1 .taken))
+shared-slice-read-met : tie.Need-shared-slice-read-met Inv-loop μ-loop
+shared-slice-read-met c = search needs
 
 add-i : tie.Need-add-i Inv-loop μ-loop
 add-i c = search needs
@@ -41,16 +35,18 @@ loop-less c = search needs
 
 loop-again : tie.Need-loop-again Inv-loop μ-loop
 loop-again c =
-    let in-loop = c .before .before in
-    let head = in-loop .before in (
+    let in-loop = c .before in
+    let head = in-loop .before in
+    let args = head .before .args in (
       omega arith,
-      any-pass _ _ (head .loop .i) _ _ (head .before .pre) (head .loop .inv .1) _ (in-loop .loop-test .taken) (ne-eqb _ _ (c .if1 .left)),
+      any-more (λ (k : ℕ). eqb k (args .key)) _ (head .loop .i) (args .keys .now) (head .loop .met) _ (head .before .pre) (head .loop .inv .1) 0 (in-loop .loop-test .taken),
     )
 
-returns-2 : tie.Need-returns-2 Inv-loop μ-loop
-returns-2 c =
+returns : tie.Need-returns Inv-loop μ-loop
+returns c =
     let head = c .before in
-    any-none _ _ (head .loop .i) _ _ (head .before .pre) (head .loop .inv .1) (c .loop-test .left)
+    let args = head .before .args in
+    any-none (λ (k : ℕ). eqb k (args .key)) _ (head .loop .i) (args .keys .now) (head .loop .met) _ (head .before .pre) (head .loop .inv .1) (c .loop-test .left)
 
 pub seen-spec : {M : Type 1} → statement M
 seen-spec =
@@ -59,10 +55,9 @@ seen-spec =
     Inv-loop
     μ-loop
     loop-holds
-    mul-if1
-    shared-slice-read-if1
-    returns
+    mul-met
+    shared-slice-read-met
     add-i
     loop-less
     loop-again
-    returns-2)
+    returns)

@@ -1,75 +1,85 @@
--- `third::zone_marks` meets its contract. The invariant: the rows so far, and the marks of the zones that are left, are the marks of all. Assumes nothing.
-use Prim.Native.Nat.{_-_, _≤_}
+-- `third::zone_marks` meets its contract. The invariant: the columns have the marks so far, and these with the marks of the zones that are left are the marks of all. Assumes nothing.
+use Prim.Native.Nat.{_-_, _≤_, _<_}
 use native.Mathlib.Omega.{arith}
-use mathlib.Core.Path.{_≡_, refl}
-use mathlib.Core.List.{_++_}
-use lib.ListN.{length, take, drop, length-set}
+use mathlib.Core.Path.{_≡_, refl, _∙_}
+use mathlib.Core.List.{List, [], _∷_, _++_, map, foldl}
+use lib.ListN.{length, getD, drop}
+use lib.Ieee.{nan}
+use borrow.Author.Needs.{needs}
+use Rattle.chart.specs.declared.ThirdMark.{ThirdMark}
+use Rattle.chart.specs.declared.Triple.{Triple}
+use Rattle.chart.specs.declared.Zone.{Zone}
 use Rattle.rules.specs.Lists.{each}
 use Rattle.rules.specs.Records.{Levels}
-use Rattle.rules.specs.Marks.{zoneThird}
-use Rattle.scan.specs.Scan.{ScansOf}
-use borrow.Author.Needs.{needs}
-use Rattle.third.proofs.ZoneMarks.{hit-price, hit-within, zones-none, zone-pass, zone-mark}
+use Rattle.rules.specs.Ranges.{rangeOf}
+use Rattle.rules.specs.Marks.{addThird, zoneThird}
+use Rattle.columns.specs.Columns.{Column, endOf}
+use Rattle.columns.proofs.Fill.{column-length, column-at}
+use Rattle.scan.specs.Scan.{Scanning}
+use Rattle.scan.proofs.Columns.{there}
+use Rattle.scan.proofs.Steps.{no-zone}
+use Rattle.third.specs.Third.{Marked}
+use Rattle.third.proofs.Repeats.{marked-none, marked-more}
+use Rattle.third.proofs.ZoneMarks.{hit-price, hit-within, edge-by, zones-none, zone-pass, zone-mark}
 use Rattle.third.proofs.zone_marks.Statement.{statement}
 use Rattle.third.proofs.zone_marks.Tie as tie
 
 abbrev Inv-loop : tie.InvT-loop
-Inv-loop n m highs lows zones ways ends sides froms limits rows₀ count₀ i₀ rows count i =
-    (count ≤ i) × (i ≤ n) × (length rows ≡ 512)
-    × ((c : Levels) → ScansOf c (take n zones) n m (record { ways = ways; ends = ends; sides = sides; froms = froms; limits = limits })
-    → take count rows ++ each (zoneThird c (record { highs = highs; lows = lows }) (take n zones)) (drop i (take n zones))
-    ≡ each (zoneThird c (record { highs = highs; lows = lows }) (take n zones)) (take n zones))
+Inv-loop ways ends m sides froms limits zds zgs n highs lows keys₀ bars₀ prices₀ grounds₀ zoned₀ count₀ i₀ keys bars prices grounds zoned count i =
+    (count ≤ i) × (i ≤ n) × (length keys ≡ 512) × (length bars ≡ 512) × (length prices ≡ 512) × (length grounds ≡ 512) × (length zoned ≡ 512)
+    × ((c : Levels) (zs : List Zone) → Column (λ (t : Triple). t .direction) m ways (c .bigs) → Column endOf m ends (map (rangeOf c) (c .bigs))
+    → Scanning c zs n sides froms limits → Column (λ (z : Zone). z .zd) n zds zs → Column (λ (z : Zone). z .zg) n zgs zs
+    → (done : List ThirdMark) × Marked count keys bars prices grounds zoned (foldl addThird [] done)
+    × (done ++ each (zoneThird c (record { highs = highs; lows = lows }) zs) (drop i zs) ≡ each (zoneThird c (record { highs = highs; lows = lows }) zs) zs))
 
 abbrev μ-loop : tie.MeasureT-loop
-μ-loop n m highs lows zones ways ends sides froms limits rows₀ count₀ i₀ rows count i = n - i
-
--- the count is within the array
-within : (c : tie.Start Inv-loop μ-loop) → c .args .n ≤ length (c .args .t1)
-within c = omega arith
-
-ways-long : (c : tie.Start Inv-loop μ-loop) → c .args .m ≤ length (c .args .scans .ways)
-ways-long c = let long : length (c .args .scans .ways) ≡ 256 = search needs in omega (arith, c .pre .1)
-
-ends-long : (c : tie.Start Inv-loop μ-loop) → c .args .m ≤ length (c .args .scans .ends)
-ends-long c = let long : length (c .args .scans .ends) ≡ 256 = search needs in omega (arith, c .pre .1)
+μ-loop ways ends m sides froms limits zds zgs n highs lows keys₀ bars₀ prices₀ grounds₀ zoned₀ count₀ i₀ keys bars prices grounds zoned count i = n - i
 
 loop-holds : tie.Need-loop-holds Inv-loop μ-loop
-loop-holds c = (search needs, search needs, refl, λ levels scanned. refl)
+loop-holds c =
+    let long = c .before .before .before .before .before .before .before .before .before .before .before .before .before .before .pre .1 .1 in (
+      omega arith,
+      omega arith,
+      long .0,
+      long .1,
+      long .2,
+      long .3,
+      long .4,
+      λ l zs w e s lo hi. ([], marked-none _ _ _ _ _, refl),
+    )
 
-mul-z : tie.Need-mul-z Inv-loop μ-loop
-mul-z c = search needs
+shared-slice-read-d : tie.Need-shared-slice-read-d Inv-loop μ-loop
+shared-slice-read-d c = search needs
 
-array-copy-out-z : tie.Need-array-copy-out-z Inv-loop μ-loop
-array-copy-out-z c = search needs
+mul-edge-of : tie.Need-mul-edge-of Inv-loop μ-loop
+mul-edge-of c = search needs
 
-array-read-d : tie.Need-array-read-d Inv-loop μ-loop
-array-read-d c = search needs
+shared-slice-read-edge-of : tie.Need-shared-slice-read-edge-of Inv-loop μ-loop
+shared-slice-read-edge-of c = search needs
+
+mul-edge-of-2 : tie.Need-mul-edge-of-2 Inv-loop μ-loop
+mul-edge-of-2 c = search needs
+
+shared-slice-read-edge-of-2 : tie.Need-shared-slice-read-edge-of-2 Inv-loop μ-loop
+shared-slice-read-edge-of-2 c = search needs
 
 edge-of-requires : tie.Need-edge-of-requires Inv-loop μ-loop
 edge-of-requires c κs = search needs
 
-slice-aggregate-zone-hit : tie.Need-slice-aggregate-zone-hit Inv-loop μ-loop
-slice-aggregate-zone-hit c = search needs
-
-slice-aggregate-zone-hit-2 : tie.Need-slice-aggregate-zone-hit-2 Inv-loop μ-loop
-slice-aggregate-zone-hit-2 c = search needs
-
 mul-zone-hit : tie.Need-mul-zone-hit Inv-loop μ-loop
 mul-zone-hit c = search needs
 
-array-read-zone-hit : tie.Need-array-read-zone-hit Inv-loop μ-loop
-array-read-zone-hit c = search needs
+shared-slice-read-zone-hit : tie.Need-shared-slice-read-zone-hit Inv-loop μ-loop
+shared-slice-read-zone-hit c = search needs
 
 mul-zone-hit-2 : tie.Need-mul-zone-hit-2 Inv-loop μ-loop
 mul-zone-hit-2 c = search needs
 
-array-read-zone-hit-2 : tie.Need-array-read-zone-hit-2 Inv-loop μ-loop
-array-read-zone-hit-2 c = search needs
+shared-slice-read-zone-hit-2 : tie.Need-shared-slice-read-zone-hit-2 Inv-loop μ-loop
+shared-slice-read-zone-hit-2 c = search needs
 
 zone-hit-requires : tie.Need-zone-hit-requires Inv-loop μ-loop
-zone-hit-requires c κs =
-    let start = c .before .before .before .before .before .before .before .before .before .before .before .before .before in
-    (ways-long start, ends-long start, search needs)
+zone-hit-requires c κs = search needs
 
 add-i : tie.Need-add-i Inv-loop μ-loop
 add-i c = search needs
@@ -87,62 +97,98 @@ loop-again : tie.Need-loop-again Inv-loop μ-loop
 loop-again c =
     let found = c .before .before in
     let edged = found .before .before .before in
-    let in-loop = edged .before .before in
+    let in-loop = edged .before .before .before .before in
     let head = in-loop .before in
-    let start = head .before .before .before .before .before .before .before .before in
-    let inv = head .loop .inv in (
+    let start = head .before .before .before .before .before .before .before .before .before .before .before .before .before .before .before in
+    let i = head .loop .i in
+    let inv = head .loop .inv in
+    let more = in-loop .loop-test .taken in (
       search needs,
       search needs,
       inv .2,
-      λ levels scans. zone-pass levels _ (start .args .t1) (start .args .n) (head .loop .i) (head .loop .count) (head .loop .rows) _ (within start) (inv .3 levels scans) (in-loop .loop-test .taken) _
-          (start .args .scans .sides) (start .args .scans .froms) (start .args .scans .limits) (scans .zones) _ (edged .edge-of .ensures) (found .zone-hit .result) (λ stop lim. found .zone-hit .ensures .1 levels stop (scans .ways) (scans .ends) lim) (c .enum-told .given .1),
+      inv .3,
+      inv .4,
+      inv .5,
+      inv .6,
+      λ l zs w e s lo hi.
+          let z = getD zs i no-zone in
+          let here = there zs i no-zone (omega (arith, more, column-length (λ (y : Zone). y .zd) _ _ zs lo)) in
+          let edge = edge-by (getD (start .args .sides .now) i 0) _ _ _ z (edged .edge-of .ensures) (column-at (λ (y : Zone). y .zd) _ i _ zs nan z lo more here) (column-at (λ (y : Zone). y .zg) _ i _ zs nan z hi more here) in
+          let so-far = inv .7 l zs w e s lo hi in
+          (so-far .0, so-far .1, zone-pass l _ zs _ i (so-far .0) _ (column-length (λ (y : Zone). y .zd) _ _ zs lo) (so-far .2) more no-zone (start .args .sides .now) (start .args .froms .now) (start .args .limits .now) s _ edge (found .zone-hit .result) (λ stop lim. found .zone-hit .ensures .1 l stop w e lim) (c .enum-told .given .1)),
     )
 
-cast-t42 : tie.Need-cast-t42 Inv-loop μ-loop
-cast-t42 c =
-    let found = c .before .before .before in
-    let start = found .before .before .before .before .before .before .before .before .before .before .before .before .before .before in
-    let below = hit-within _ _ (found .zone-hit .result) (found .zone-hit .ensures .0) _ _ (c .before .hit .given .1) 65536 (start .pre .2) (start .pre .3) in
+cast-put : tie.Need-cast-put Inv-loop μ-loop
+cast-put c =
+    let told = c .before .before .before .before .before in
+    let found = told .before .before .before in
+    let start = found .before .before .before .before .before .before .before .before .before .before .before .before .before .before .before .before .before .before .before .before .before .before .before in
+    let below = hit-within _ _ (found .zone-hit .result) (found .zone-hit .ensures .0) _ _ (told .before .hit .given .1) 65536 (start .pre .0 .4) (start .pre .0 .5) in
     search needs
 
-mul-rows : tie.Need-mul-rows Inv-loop μ-loop
-mul-rows c = search needs
-
-array-set-from-rows : tie.Need-array-set-from-rows Inv-loop μ-loop
-array-set-from-rows c = search needs
-
-add-count : tie.Need-add-count Inv-loop μ-loop
-add-count c = search needs
+put-requires : tie.Need-put-requires Inv-loop μ-loop
+put-requires c κs =
+    let head = c .before .before .before .before .before .before .before .before .before .before .before .before .before .before .before .before in
+    let start = head .before .before .before .before .before .before .before .before .before .before .before .before .before .before .before in
+    let inv = head .loop .inv in
+    let room : head .loop .count < 512 = omega (arith, inv, c .before .before .before .before .before .before .before .before .before .before .before .before .before .before .before .loop-test .taken, start .pre .0) in
+    (omega (arith, room, inv), omega (arith, room, inv), omega (arith, room, inv), omega (arith, room, inv), omega (arith, room, inv))
 
 loop-less-2 : tie.Need-loop-less-2 Inv-loop μ-loop
 loop-less-2 c = search needs
 
 loop-again-2 : tie.Need-loop-again-2 Inv-loop μ-loop
 loop-again-2 c =
-    let found = c .before .before .before in
+    let at-put = c .before .before .before .before .before .before .before .before .before .before in
+    let told = at-put .before .before .before .before .before .before in
+    let found = told .before .before .before in
     let edged = found .before .before .before in
-    let in-loop = edged .before .before in
+    let in-loop = edged .before .before .before .before in
     let head = in-loop .before in
-    let start = head .before .before .before .before .before .before .before .before in
-    let inv = head .loop .inv in (
-      search needs,
-      search needs,
-      simp length-set (inv .2),
-      λ levels scans. zone-mark levels _ (start .args .t1) (start .args .n) (head .loop .i) (head .loop .count) (head .loop .rows) _ (within start) (inv .3 levels scans) (in-loop .loop-test .taken) _
-          (start .args .scans .sides) (start .args .scans .froms) (start .args .scans .limits) (scans .zones) _ (edged .edge-of .ensures) (found .zone-hit .result) (λ stop lim. found .zone-hit .ensures .1 levels stop (scans .ways) (scans .ends) lim) _ _ (c .before .hit .given .1) (hit-price _ _ (found .zone-hit .result) (found .zone-hit .ensures .0) _ _ (c .before .hit .given .1)) (search needs),
+    let start = head .before .before .before .before .before .before .before .before .before .before .before .before .before .before .before in
+    let i = head .loop .i in
+    let inv = head .loop .inv in
+    let more = in-loop .loop-test .taken in
+    let kept = at-put .put .ensures .0 in (
+      omega (arith, inv, kept),
+      omega (arith, more),
+      kept .1 ∙ inv .2,
+      kept .2 ∙ inv .3,
+      kept .3 ∙ inv .4,
+      kept .4 ∙ inv .5,
+      kept .5 ∙ inv .6,
+      λ l zs w e s lo hi.
+          let z = getD zs i no-zone in
+          let here = there zs i no-zone (omega (arith, more, column-length (λ (y : Zone). y .zd) _ _ zs lo)) in
+          let edge = edge-by (getD (start .args .sides .now) i 0) _ _ _ z (edged .edge-of .ensures) (column-at (λ (y : Zone). y .zd) _ i _ zs nan z lo more here) (column-at (λ (y : Zone). y .zg) _ i _ zs nan z hi more here) in
+          let so-far = inv .7 l zs w e s lo hi in
+          let is = told .before .hit .given .1 in
+          (so-far .0 ++ (_ ∷ []), marked-more _ _ _ _ _ _ [] (so-far .0) _ (at-put .put .ensures .1 _ (so-far .1)), zone-mark l _ zs _ i (so-far .0) _ (column-length (λ (y : Zone). y .zd) _ _ zs lo) (so-far .2) more no-zone (start .args .sides .now) (start .args .froms .now) (start .args .limits .now) s _ edge (found .zone-hit .result) (λ stop lim. found .zone-hit .ensures .1 l stop w e lim) _ _ is (hit-price _ _ (found .zone-hit .result) (found .zone-hit .ensures .0) _ _ is)),
     )
+
+same-length : tie.Need-same-length Inv-loop μ-loop
+same-length c = search needs
+
+same-length-2 : tie.Need-same-length-2 Inv-loop μ-loop
+same-length-2 c = search needs
+
+same-length-3 : tie.Need-same-length-3 Inv-loop μ-loop
+same-length-3 c = search needs
+
+same-length-4 : tie.Need-same-length-4 Inv-loop μ-loop
+same-length-4 c = search needs
+
+same-length-5 : tie.Need-same-length-5 Inv-loop μ-loop
+same-length-5 c = search needs
 
 returns : tie.Need-returns Inv-loop μ-loop
 returns c =
     let head = c .before in
-    let start = head .before .before .before .before .before .before .before .before in
     let inv = head .loop .inv in (
-      search needs,
-      λ levels scans.
-          record {
-            few = search needs;
-            are = zones-none levels _ (start .args .t1) (start .args .n) (head .loop .i) (head .loop .count) (head .loop .rows) _ (within start) (inv .3 levels scans) (c .loop-test .left);
-          },
+      omega (arith, inv),
+      λ l zs w e s lo hi.
+          let so-far = inv .7 l zs w e s lo hi in
+          rw (← zones-none l _ zs _ (head .loop .i) (so-far .0) _ (column-length (λ (y : Zone). y .zd) _ _ zs lo) (so-far .2) (c .loop-test .left)) (so-far .1),
     )
 
 pub zone-marks-spec : {M : Type 1} → statement M
@@ -152,26 +198,29 @@ zone-marks-spec =
     Inv-loop
     μ-loop
     loop-holds
-    mul-z
-    array-copy-out-z
-    array-read-d
+    shared-slice-read-d
+    mul-edge-of
+    shared-slice-read-edge-of
+    mul-edge-of-2
+    shared-slice-read-edge-of-2
     edge-of-requires
-    slice-aggregate-zone-hit
-    slice-aggregate-zone-hit-2
     mul-zone-hit
-    array-read-zone-hit
+    shared-slice-read-zone-hit
     mul-zone-hit-2
-    array-read-zone-hit-2
+    shared-slice-read-zone-hit-2
     zone-hit-requires
     add-i
     enum-known-hit
     enum-told
     loop-less
     loop-again
-    cast-t42
-    mul-rows
-    array-set-from-rows
-    add-count
+    cast-put
+    put-requires
     loop-less-2
     loop-again-2
+    same-length
+    same-length-2
+    same-length-3
+    same-length-4
+    same-length-5
     returns)

@@ -1,0 +1,12 @@
+-- `third::ground_of` meets its contract. Assumes nothing.
+use Rattle.third.proofs.ground_of.Statement.{statement}
+use Rattle.third.proofs.ground_of.Tie as tie
+
+returns : tie.Need-returns
+returns c = rw (c .if1 .taken)
+
+returns-2 : tie.Need-returns-2
+returns-2 c = rw (c .if1 .left)
+
+pub ground-of-spec : {M : Type 1} → statement M
+ground-of-spec = tie.close (tie.spec returns returns-2)
