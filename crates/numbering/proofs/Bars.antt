@@ -1,5 +1,5 @@
 -- Rising bars: one more is put in. Assumes nothing.
-use Prim.Native.Nat.{ℕ, suc, _+_, _<_, _≤_}
+use Prim.Native.Nat.{ℕ, zero, suc, _+_, _-_, _<_, _≤_}
 use native.Mathlib.Omega.{arith}
 use mathlib.Core.Path.{_≡_, refl, sym, ap, _∙_}
 use mathlib.Core.Bool.{Bool, true, false, cond}
@@ -7,14 +7,44 @@ use mathlib.Core.List.{List, [], _∷_, _++_, foldl, append-assoc, List·Memᴰ}
 use lib.ListN.{length, getD, set, take, drop}
 use lib.Seq.{take-set-lt, drop-set-lt, getD-take, take-take, length-take-le}
 use lib.Dec.{eqb, leb, ltb}
-use borrow.Author.Tests.{le-ltb, lt-ltb, leb-true, leb-false, ne-eqb, eq-eqb}
+use borrow.Author.Tests.{le-ltb, lt-ltb, lt-leb, leb-true, leb-false, ne-eqb, eq-eqb}
 use Rattle.rules.specs.Lists.{before}
 use Rattle.rules.specs.Marks.{insertBar}
-use Rattle.laws.proofs.Lists.{All, nil, none-left, sorted-map}
+use Rattle.laws.proofs.Lists.{All, nil, cons, none-left, then, all-map, sorted-map}
 use Rattle.laws.proofs.Keys.{pigeonhole}
 use Rattle.laws.proofs.Room.{inserts-all}
-use Rattle.laws.proofs.Earlier.{inserts-rising}
+use Rattle.laws.proofs.Earlier.{Rising, inserts-rising}
 use Rattle.laws.proofs.Arrays.{left-more, left-none, one-more}
+use Rattle.numbering.proofs.Places.{place-from, all-here}
+
+-- ---- the hint: of rising bars, all up to one that is below the bar are below it
+
+below-up-to : (xs : List ℕ) (k bar : ℕ) → Rising xs → k < length xs → getD xs k 0 < bar → All (λ (b : ℕ). b < bar) (take (suc k) xs)
+below-up-to [] k bar s h e = absurd (omega arith)
+below-up-to (x ∷ xs) zero bar (then a s) h e = cons e nil
+below-up-to (x ∷ xs) (suc k) bar (then a s) h e =
+    let up : x < getD xs k 0 = all-here {P = λ (y : ℕ). x < y} xs k a (omega arith) in
+    let low : x < bar = omega arith in
+    cons low (below-up-to xs k bar s (omega arith) e)
+
+module _ (bars : List ℕ) (n from bar : ℕ) (long : n ≤ length bars) (within : from ≤ n) where
+  pub below-none : from ≤ 0 → All (λ (b : ℕ). b < bar) (take from bars)
+  below-none h = let none : from ≡ 0 = omega arith in rw none nil
+
+  pub below-hint : Rising (take n bars) → 0 < from → getD bars (from - 1) 0 < bar → All (λ (b : ℕ). b < bar) (take from bars)
+  below-hint s h e =
+      let size : length (take n bars) ≡ n = length-take-le n bars long in
+      let same : from ≡ suc (from - 1) = omega arith in
+      let last : getD (take n bars) (from - 1) 0 < bar = rw (getD-take n bars (from - 1) 0 (omega arith)) e in
+      rw (← take-take from n bars within, same) (below-up-to (take n bars) (from - 1) bar s (omega arith) last)
+
+  -- the search for the bar's place may start behind bars that are below it
+  pub from-there : All (λ (b : ℕ). b < bar) (take from bars) → from + length (before (leb bar) (drop from (take n bars))) ≡ length (before (leb bar) (take n bars))
+  from-there a =
+      let size : length (take n bars) ≡ n = length-take-le n bars long in
+      place-from (leb bar) from (take n bars) (omega arith) (rw (take-take from n bars within) (all-map (λ b h. lt-leb bar b h) a))
+
+-- ---- the insertion
 
 -- a bar goes before the first that is not below it, unless that is the bar itself
 insert-new :
@@ -73,7 +103,7 @@ module _ (bars : List ℕ) (n i held : ℕ) (all : List ℕ) (long : n < length 
       let same : i ≡ n = omega arith in
       rw (one-more bars n held long) (rw (left-none n i bars h (omega arith), same) at left)
 
--- ---- the insertion: at is the place of the first of n that is not below the bar
+-- ---- the insertion in place: at is the place of the first of n that is not below the bar
 
 module _ (bars : List ℕ) (n at bar : ℕ) (long : n < length bars) (within : at ≤ n) (found : at ≡ length (before (leb bar) (take n bars))) where
   size : length (take n bars) ≡ n

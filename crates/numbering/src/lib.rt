@@ -14,6 +14,8 @@ ghost use Rattle.rules.specs.Lists.{before, behind, keep};
 ghost use Rattle.rules.specs.Records.{Quotes};
 ghost use Rattle.rules.specs.Marks.{priceAt, numbered, orderZero, insertBar, zeroAt, push3N};
 ghost use Rattle.laws.proofs.Lists.{All};
+ghost use Rattle.laws.proofs.Keys.{Distinct};
+ghost use Rattle.laws.proofs.Earlier.{Rising};
 ghost use Rattle.numbering.specs.Rows.{keyOf, barIn, rowKey, markIn, marksIn, Room, Grown, NumbersBar};
 
 // ---- keys
@@ -53,14 +55,15 @@ fn smaller(new: u32, old: u32) -> u32
     if new < old { new } else { old }
 }
 
-// On a repeat of bar and side the smaller order wins, in the earlier row's place; the price is the same.
-pub fn push_3n(keys: &mut [u32], orders: &mut [u32], n: usize, key: u32, order: u32) -> usize
+// Puts a row at its place among n, which is n where its key is not there yet. On a repeat of bar and side the smaller order wins, in the
+// earlier row's place; the price is the same.
+fn put_row(keys: &mut [u32], orders: &mut [u32], n: usize, key: u32, order: u32, i: usize) -> usize
     requires { ⌜ (n ≤ 512) × (513 ≤ length (now keys)) × (513 ≤ length (now orders)) ⌝ }
+    requires { ⌜ i ≡ length (before (λ (k : ℕ). eqb k key) (take n (now keys))) ⌝ }
     ensures { λ r. ⌜ ((q : Quotes) → marksIn q (take r (now (keys .exit))) (take r (now (orders .exit))) ≡ push3N (marksIn q (take n (now (keys .entry))) (take n (now (orders .entry)))) (markIn q key order)) ⌝ }
     ensures { λ r. ⌜ ((ends : List ℕ) → Room ends (now (keys .entry)) n → List·Memᴰ (barIn key) ends → Room ends (now (keys .exit)) r) ⌝ }
     ensures { λ r. ⌜ Grown n (now (keys .entry)) (now (orders .entry)) r (now (keys .exit)) (now (orders .exit)) ⌝ }
 {
-    let i = place_of(keys, n, key);
     if i < n {
         orders[i] = smaller(order, orders[i]);
         return n;
@@ -70,15 +73,79 @@ pub fn push_3n(keys: &mut [u32], orders: &mut [u32], n: usize, key: u32, order: 
     n + 1
 }
 
+// A mark's row is put at its place, which a search finds.
+pub fn push_3n(keys: &mut [u32], orders: &mut [u32], n: usize, key: u32, order: u32) -> usize
+    requires { ⌜ (n ≤ 512) × (513 ≤ length (now keys)) × (513 ≤ length (now orders)) ⌝ }
+    ensures { λ r. ⌜ ((q : Quotes) → marksIn q (take r (now (keys .exit))) (take r (now (orders .exit))) ≡ push3N (marksIn q (take n (now (keys .entry))) (take n (now (orders .entry)))) (markIn q key order)) ⌝ }
+    ensures { λ r. ⌜ ((ends : List ℕ) → Room ends (now (keys .entry)) n → List·Memᴰ (barIn key) ends → Room ends (now (keys .exit)) r) ⌝ }
+    ensures { λ r. ⌜ Grown n (now (keys .entry)) (now (orders .entry)) r (now (keys .exit)) (now (orders .exit)) ⌝ }
+{
+    let i = place_of(keys, n, key);
+    put_row(keys, orders, n, key, order, i)
+}
+
+// The place of a key, by a guess: where the key stands there it is the place, since no two keys are the same.
+fn place_near(keys: &[u32], n: usize, key: u32, near: usize) -> usize
+    requires { ⌜ (n ≤ length (now keys)) × Distinct (take n (now keys)) ⌝ }
+    ensures { λ r. ⌜ r ≡ length (before (λ (k : ℕ). eqb k key) (take n (now (keys .entry)))) ⌝ }
+{
+    if near < n {
+        if keys[near] == key {
+            return near;
+        }
+    }
+    place_of(keys, n, key)
+}
+
+// What the rows are after one was pushed: how many, and the place of that one.
+pub struct Pushed {
+    pub count: usize,
+    pub place: usize,
+}
+
+// As push_3n, with a guess of the row's place, which may be wrong.
+pub fn push_near(
+    keys: &mut [u32],
+    orders: &mut [u32],
+    n: usize,
+    key: u32,
+    order: u32,
+    near: usize,
+) -> Pushed
+    requires { ⌜ (n ≤ 512) × (513 ≤ length (now keys)) × (513 ≤ length (now orders)) × Distinct (take n (now keys)) ⌝ }
+    ensures { λ r. ⌜ ((q : Quotes) → marksIn q (take (r .count) (now (keys .exit))) (take (r .count) (now (orders .exit))) ≡ push3N (marksIn q (take n (now (keys .entry))) (take n (now (orders .entry)))) (markIn q key order)) ⌝ }
+    ensures { λ r. ⌜ ((ends : List ℕ) → Room ends (now (keys .entry)) n → List·Memᴰ (barIn key) ends → Room ends (now (keys .exit)) (r .count)) ⌝ }
+    ensures { λ r. ⌜ Grown n (now (keys .entry)) (now (orders .entry)) (r .count) (now (keys .exit)) (now (orders .exit)) ⌝ }
+{
+    let place = place_near(keys, n, key, near);
+    let count = put_row(keys, orders, n, key, order, place);
+    Pushed { count, place }
+}
+
 // ---- bars
 
-// The place of the first bar of n that is not below this one, and n where there is none.
-fn bar_place(bars: &[u32], n: usize, bar: u32) -> usize
-    requires { ⌜ n ≤ length (now bars) ⌝ }
+// Where the search for a bar's place starts: at the hint where the bars before it are below this one, and at the first elsewhere. The bars
+// rise, so the one before the hint tells of all.
+fn start_at(bars: &[u32], n: usize, from: usize, bar: u32) -> usize
+    requires { ⌜ (n ≤ length (now bars)) × (from ≤ n) × Rising (take n (now bars)) ⌝ }
+    ensures { λ r. ⌜ r ≤ n ⌝ }
+    ensures { λ r. ⌜ All (λ (b : ℕ). b < bar) (take r (now (bars .entry))) ⌝ }
+{
+    if 0 < from {
+        if bar <= bars[from - 1] {
+            return 0;
+        }
+    }
+    from
+}
+
+// The place of the first bar of n that is not below this one, and n where there is none. The first `from` are known to be below.
+fn bar_place(bars: &[u32], n: usize, from: usize, bar: u32) -> usize
+    requires { ⌜ (n ≤ length (now bars)) × (from ≤ n) × All (λ (b : ℕ). b < bar) (take from (now bars)) ⌝ }
     ensures { λ r. ⌜ r ≤ n ⌝ }
     ensures { λ r. ⌜ r ≡ length (before (leb bar) (take n (now (bars .entry)))) ⌝ }
 {
-    let mut i = 0usize;
+    let mut i = from;
     while i < n {
         if bar <= bars[i] {
             return i;
@@ -105,21 +172,31 @@ fn put_in(bars: &mut [u32], at: usize, n: usize, bar: u32)
     bars[n] = held;
 }
 
-// Puts a bar into n rising bars, in which each stands once.
-pub fn insert_bar(bars: &mut [u32], n: usize, bar: u32) -> usize
-    requires { ⌜ n < length (now bars) ⌝ }
-    ensures { λ r. ⌜ take r (now (bars .exit)) ≡ insertBar (take n (now (bars .entry))) bar ⌝ }
+// What the bars are after one was put in: how many, and the place behind that one.
+pub struct Inserted {
+    pub count: usize,
+    pub next: usize,
+}
+
+// Puts a bar into n rising bars, in which each stands once. The search starts at place `from` where the bars before it are below the bar,
+// and at the first elsewhere.
+pub fn insert_bar(bars: &mut [u32], n: usize, from: usize, bar: u32) -> Inserted
+    requires { ⌜ (n < length (now bars)) × (from ≤ n) × Rising (take n (now bars)) ⌝ }
+    ensures { λ r. ⌜ take (r .count) (now (bars .exit)) ≡ insertBar (take n (now (bars .entry))) bar ⌝ }
     ensures { λ r. ⌜ length (now (bars .exit)) ≡ length (now (bars .entry)) ⌝ }
-    ensures { λ r. ⌜ (n ≤ r) × (r ≤ n + 1) ⌝ }
+    ensures { λ r. ⌜ (n ≤ r .count) × (r .count ≤ n + 1) × (r .next ≤ r .count) ⌝ }
 {
-    let at = bar_place(bars, n, bar);
+    let start = start_at(bars, n, from, bar);
+    let at = bar_place(bars, n, start, bar);
+    let next = at + 1;
     if at < n {
         if bars[at] == bar {
-            return n;
+            return Inserted { count: n, next };
         }
     }
     put_in(bars, at, n, bar);
-    n + 1
+    let count = n + 1;
+    Inserted { count, next }
 }
 
 // ---- numbered marks

@@ -1,19 +1,20 @@
--- Demand 3 but for 3+N marks: `promise`, of every sequence of calls, and of every call for third marks behind it. Assumes nothing.
-use Prim.Native.Nat.{ℕ}
+-- Demand 3: `promise`, of every sequence of calls, and of every call for third or 3+N marks behind it. Assumes nothing.
+use Prim.Native.Nat.{ℕ, _≤_}
 use mathlib.Core.Path.{_≡_, sym, ap, subst, _∙_}
 use mathlib.Core.Bool.{false}
 use mathlib.Core.List.{List, List·Memᴰ}
 use Rattle.chart.specs.declared.Zone.{Zone}
 use Rattle.chart.specs.declared.Chart.{Chart}
 use Rattle.chart.specs.declared.ThirdMark.{ThirdMark}
+use Rattle.chart.specs.declared.NMark.{NMark}
 use Rattle.rules.specs.Answer.{rowsAnswer}
 use Rattle.rules.specs.Records.{levelsOf, Quotes}
 use Rattle.rules.specs.Zones.{overlapZones, membersOf}
-use Rattle.rules.specs.Marks.{thirdMarks}
+use Rattle.rules.specs.Marks.{thirdMarks, nMarks}
 use Rattle.rules.specs.Refusals.{overfull, badLevels, badChart, badLive, zonesRefusal}
-use Rattle.rules.specs.Calls.{thirdCall}
+use Rattle.rules.specs.Calls.{thirdCall, nCall}
 use Rattle.rules.specs.Machine.{Call, zones}
-use Rattle.rules.specs.Claims.{OneZone}
+use Rattle.rules.specs.Claims.{OneZone, Earlier, Apart}
 use Rattle.laws.proofs.Tests.{or-i}
 use Rattle.laws.proofs.Lists.{All, all-in}
 use Rattle.laws.proofs.Ordered.{InOrder, not-bad, not-broken}
@@ -21,15 +22,22 @@ use Rattle.laws.proofs.Machine.{not-21-ordered, not-21-counts}
 use Rattle.laws.proofs.Zones.{zones-edges, zone-opposes, one-zone, zones-members, never-11}
 use Rattle.laws.proofs.Thirds.{thirds-beyond}
 use Rattle.laws.proofs.Grounds.{thirds-traced}
+use Rattle.laws.proofs.Unique.{marks-apart}
+use Rattle.laws.proofs.Earlier.{marks-earlier}
+use Rattle.laws.proofs.Quoted.{marks-quoted}
 use Rattle.live.specs.declared.Live.{Live}
 use Rattle.live.specs.Sequence.{AsMachine}
 use Rattle.live.proofs.Chained.{sequence}
-use Rattle.promise.specs.Promise.{levelsIn, zonesIn, Thirds, The-promise}
-use Rattle.promise.proofs.Results.{result, third-is}
+use Rattle.promise.specs.Promise.{levelsIn, zonesIn, Thirds, ThreeN, The-promise}
+use Rattle.promise.proofs.Results.{result, third-is, n-refusal, n-is}
 
 -- what holds of every one of some rows holds of each of rows that are the same
 each-of : {A : Type 0} {P : A → Type 0} {xs ys : List A} → xs ≡ ys → All P ys → (x : A) → List·Memᴰ x xs → P x
 each-of {P = P} e h x m = all-in (subst (All P) (sym e) h) m
+
+-- each mark of order 1 or more has an earlier one among the same marks
+abbrev Led : List NMark → Type 0
+Led ms = All (λ (m : NMark). 1 ≤ m .order → Earlier ms m) ms
 
 -- ---- calls for marks on a chart in order
 
@@ -46,6 +54,19 @@ module _ (c : Chart) (good : badChart c ≡ false) (o : InOrder (levelsOf c)) wh
         result = r;
         beyond = λ h. each-of (r .rows-are h) (thirds-beyond (levelsOf c) q);
         traced = λ h. each-of (r .rows-are h) (thirds-traced (levelsOf c) q);
+      }
+
+  three-n :
+      (q : Quotes) (number count : ℕ) (rows : List NMark) → rowsAnswer number count rows ≡ nCall c q
+      → ThreeN (levelsOf c) q number count rows
+  three-n q number count rows e =
+      let l = levelsOf c in
+      let r = result count rows _ (nMarks l q) number (e ∙ n-is c q good few) in
+      record {
+        result = r;
+        earlier = λ h m k. all-in (subst Led (sym (r .rows-are h)) (marks-earlier l q (not-broken l o))) k;
+        apart = λ h. subst Apart (sym (r .rows-are h)) (marks-apart l q);
+        quoted = λ h. each-of (r .rows-are h) (marks-quoted l q (n-refusal c q good few ∙ sym (r .number-is) ∙ h));
       }
 
 -- ---- the chart that a sequence leaves
@@ -74,4 +95,5 @@ promise b d ks ns h t =
       members-oppose = λ y m j w. zone-opposes l y j w;
       edges = each-of z (zones-edges l (not-bad l o));
       third = third (d .chart) good o;
+      three-n = three-n (d .chart) good o;
     }

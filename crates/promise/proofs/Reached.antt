@@ -1,18 +1,36 @@
--- The promise is empty for no list of calls and no quotes: there are charts and results for each, as the contracts have them. Assumes nothing.
+-- The promise is empty for no list of calls and no quotes: there are charts and results for each, as the contracts have them. And chart K,
+-- built by calls, has third and 3+N marks. Assumes nothing.
 use Prim.Native.Nat.{ℕ, zero, suc}
 use mathlib.Core.Path.{_≡_, refl, sym, ap, subst, _∙_}
-use mathlib.Core.Bool.{false}
-use mathlib.Core.List.{List, [], _∷_}
+use mathlib.Core.Bool.{true, false}
+use mathlib.Core.List.{List, [], _∷_, _++_, map}
 use native.Mathlib.Omega.{arith}
-use lib.ListN.{length}
+use lib.ListN.{length, replicate}
+use lib.Ieee.{nan}
 use lib.Seq.{take-length}
 use borrow.Author.Tests.{le-ltb, ne-eqb}
-use Rattle.rules.specs.Answer.{answered, rowsAnswer}
+use Rattle.rules.specs.Answer.{refused, answered, rowsAnswer}
 use Rattle.rules.specs.Records.{Levels, levelsOf}
 use Rattle.rules.specs.Zones.{overlapZones, zonesFrom}
 use Rattle.rules.specs.Refusals.{overfull}
-use Rattle.rules.specs.Machine.{Call, Machine, empty, refusal, step, run, answers}
+use Rattle.rules.specs.Calls.{thirdCall, nCall}
+use Rattle.rules.specs.Machine.{
+  Call,
+  Machine,
+  addStroke,
+  addSegment,
+  addBig,
+  addSuperior,
+  empty,
+  refusal,
+  step,
+  run,
+  answers,
+}
 use Rattle.rules.specs.Live.{View, view, after}
+use Rattle.rules.proofs.Computing.{everything}
+use Rattle.rules.proofs.Charts.{zoneThird, mark}
+use Rattle.rules.proofs.ChartK.{K, barsOf, barsK}
 use Rattle.laws.proofs.Ordered.{InOrder, not-broken}
 use Rattle.laws.proofs.Zones.{zones-256}
 use Rattle.laws.proofs.Machine.{step-ordered, run-ordered, live-is}
@@ -122,3 +140,39 @@ pub every-answer : {A : Type 0} (r : ℕ) (l : List A) → (number count : ℕ) 
 unfolding answered
 every-answer zero l = (0, length l, l, given-rows l (length l) (omega arith) ∙ rw (take-length l))
 every-answer (suc r) l = (suc r, 0, l, refused-rows l (suc r) (omega arith))
+
+-- ---- chart K by calls: a chain whose calls are all accepted, on whose chart both calls for marks are accepted and have rows
+
+pub record Built : Type 0 where
+  pub first : Live
+  pub left : Live
+  pub nothing : Nothing first
+  pub calls : List Call
+  pub chain : Chain first calls (replicate 25 0) left
+  -- a result of each call for marks, with number 0 and rows
+  pub third : rowsAnswer 0 1 (zoneThird true 29 26 20 ∷ []) ≡ thirdCall (left .chart) (barsK 26)
+  pub three-n : rowsAnswer 0 2 (mark true 0 29 26 ∷ mark true 1 38 19 ∷ []) ≡ nCall (left .chart) (barsK 26)
+  -- each number that refuses the 3+N call
+  pub unequal-slices : nCall (left .chart) (record { highs = barsK 26 .highs; lows = [] }) ≡ refused 8
+  pub no-price : nCall (left .chart) (record { highs = nan ∷ []; lows = nan ∷ [] }) ≡ refused 1
+  pub outside : nCall (left .chart) (barsOf 38 26) ≡ refused 9
+
+abbrev building : List Call
+building =
+    map addStroke (K .strokes) ++ map addSegment (K .segments) ++ map addBig (K .bigs) ++ map addSuperior (K .superiors)
+
+pub built : Built
+unfolding everything liveOf
+built =
+    record {
+      first = liveOf empty;
+      left = liveOf (run empty building);
+      nothing = nothing;
+      calls = building;
+      chain = chain empty (run-ordered []) building;
+      third = refl;
+      three-n = refl;
+      unequal-slices = refl;
+      no-price = refl;
+      outside = refl;
+    }

@@ -10,9 +10,18 @@ use borrow.Author.Tests.{eqb-true}
 use Rattle.chart.specs.declared.Chart.{Chart}
 use Rattle.rules.specs.Answer.{refused, answered, rowsAnswer}
 use Rattle.rules.specs.Records.{levelsOf, Quotes}
-use Rattle.rules.specs.Marks.{thirdMarks}
-use Rattle.rules.specs.Refusals.{refuse, badSlices, badQuotes, zonesRefusal, thirdRefusal, badChart}
-use Rattle.rules.specs.Calls.{onChart, thirdCall}
+use Rattle.rules.specs.Marks.{thirdMarks, nMarks}
+use Rattle.rules.specs.Refusals.{
+  refuse,
+  badSlices,
+  badQuotes,
+  endsOutside,
+  zonesRefusal,
+  thirdRefusal,
+  nRefusal,
+  badChart,
+}
+use Rattle.rules.specs.Calls.{onChart, thirdCall, nCall}
 use Rattle.laws.proofs.Answers.{rows-given, rows-refused}
 use Rattle.promise.specs.Promise.{Result}
 
@@ -43,9 +52,20 @@ module _ {A : Type 0} (count : ℕ) (rows : List A) (r : ℕ) (l : List A) where
         rows-are = λ h. rows-given count rows r l (ap (λ (x : ℕ). rowsAnswer x count rows) (sym h) ∙ e) .same;
       }
 
--- ---- the third call, where the chart is not refused with 21 and has no more than 256 zones
+-- ---- the calls for marks, where the chart is not refused with 21 and has no more than 256 zones
 
 module _ (c : Chart) (q : Quotes) (good : badChart c ≡ false) (few : zonesRefusal (levelsOf c) ≡ 0) where
   pub third-is : thirdCall c q ≡ answered (refuse (badSlices q) 8 (refuse (badQuotes q) 1 0)) (thirdMarks (levelsOf c) q)
   unfolding thirdCall onChart thirdRefusal
   third-is = rw (good, few)
+
+  pub n-refusal :
+      nRefusal (levelsOf c) q ≡ refuse (badSlices q) 8 (refuse (badQuotes q) 1 (refuse (endsOutside (levelsOf c) q) 9 0))
+  unfolding nRefusal
+  n-refusal = rw few
+
+  pub n-is :
+      nCall c q
+      ≡ answered (refuse (badSlices q) 8 (refuse (badQuotes q) 1 (refuse (endsOutside (levelsOf c) q) 9 0))) (nMarks (levelsOf c) q)
+  unfolding nCall onChart
+  n-is = rw (good, n-refusal)

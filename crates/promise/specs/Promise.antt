@@ -1,20 +1,22 @@
--- Demand 3 of the customer's letter as one statement, but for 3+N marks, over the definitions that the contracts of the code cite. Sentences in
--- quotes are the letter's. Assumes nothing.
+-- Demand 3 of the customer's letter as one statement, over the definitions that the contracts of the code cite. Sentences in quotes are the
+-- letter's. Assumes nothing.
 use Prim.Native.Nat.{ℕ, _≤_}
 use mathlib.Core.Path.{_≡_}
 use mathlib.Core.Logic.{_≢_}
 use mathlib.Core.List.{List, List·Memᴰ}
+use mathlib.Core.Option.{some}
 use lib.ListN.{length, take}
 use Rattle.chart.specs.declared.Zone.{Zone}
 use Rattle.chart.specs.declared.ThirdMark.{ThirdMark}
+use Rattle.chart.specs.declared.NMark.{NMark}
 use Rattle.rules.specs.Answer.{rowsAnswer}
 use Rattle.rules.specs.Records.{Levels, levelsOf, Quotes}
 use Rattle.rules.specs.Zones.{overlapZones, membersOf}
-use Rattle.rules.specs.Marks.{thirdMarks}
-use Rattle.rules.specs.Refusals.{refuse, badSlices, badQuotes}
-use Rattle.rules.specs.Calls.{thirdCall}
+use Rattle.rules.specs.Marks.{quote, thirdMarks, nMarks}
+use Rattle.rules.specs.Refusals.{refuse, badSlices, badQuotes, endsOutside}
+use Rattle.rules.specs.Calls.{thirdCall, nCall}
 use Rattle.rules.specs.Machine.{Call}
-use Rattle.rules.specs.Claims.{Opposes, OneZone, Edges, Beyond, Traced}
+use Rattle.rules.specs.Claims.{Opposes, OneZone, Edges, Beyond, Traced, Earlier, Apart}
 use Rattle.live.specs.declared.Live.{Live}
 use Rattle.live.specs.Did.{Nothing}
 use Rattle.live.specs.Sequence.{Chain, AsMachine}
@@ -26,7 +28,7 @@ levelsIn d = levelsOf (d .chart)
 abbrev pub zonesIn : Live → List Zone
 zonesIn d = take (d .«zone_count») (d .zones)
 
--- ---- the results of the third call: a number, a count and an array of rows
+-- ---- the results of the third and the 3+N call: a number, a count and an array of rows
 
 -- the refusal of a call and the marks that it gives where that is 0, as a result has them
 pub record Result {A : Type 0} (refusal : ℕ) (marks : List A) (number count : ℕ) (rows : List A) : Type 0 where
@@ -45,6 +47,19 @@ pub record Thirds (c : Levels) (q : Quotes) (number count : ℕ) (rows : List Th
   pub beyond : number ≡ 0 → (m : ThirdMark) → List·Memᴰ m (take count rows) → Beyond q m
   -- "An author must be able to trace each mark": the ground is an edge of a zone, or the price C of an anchor, whose bars have the mark's
   pub traced : number ≡ 0 → (m : ThirdMark) → List·Memᴰ m (take count rows) → Traced c m
+
+-- of the 3+N call on a chart with these records
+pub record ThreeN (c : Levels) (q : Quotes) (number count : ℕ) (rows : List NMark) : Type 0 where
+  -- "Whatever highs and lows .. the 3+N call then accepts": these alone refuse it, with 8, 1 or, where a stroke ends behind them, 9. 21 and 11 cannot
+  -- arise
+  pub result :
+      Result (refuse (badSlices q) 8 (refuse (badQuotes q) 1 (refuse (endsOutside c q) 9 0))) (nMarks c q) number count rows
+  -- "Every 3+N mark with N of 1 or more has an order-0 mark of its side at an earlier bar in the same result"
+  pub earlier : number ≡ 0 → (m : NMark) → List·Memᴰ m (take count rows) → 1 ≤ m .order → Earlier (take count rows) m
+  -- "No two 3+N marks share bar and side"
+  pub apart : number ≡ 0 → Apart (take count rows)
+  -- "An author must be able to trace each mark": its price is the lent one of its side at its bar, which is inside the slices
+  pub quoted : number ≡ 0 → (m : NMark) → List·Memᴰ m (take count rows) → quote q (m .«is_buy») (m .«bar_index») ≡ some (m .price)
 
 -- ---- the chart that a sequence of calls leaves
 
@@ -69,6 +84,10 @@ pub record Promise (ks : List Call) (ns : List ℕ) (d : Live) : Type 0 where
   pub third :
       (q : Quotes) (number count : ℕ) (rows : List ThirdMark) → rowsAnswer number count rows ≡ thirdCall (d .chart) q
       → Thirds (levelsIn d) q number count rows
+  -- and for the 3+N call's
+  pub three-n :
+      (q : Quotes) (number count : ℕ) (rows : List NMark) → rowsAnswer number count rows ≡ nCall (d .chart) q
+      → ThreeN (levelsIn d) q number count rows
 
 -- "Take any list of add, lengthen, withdraw and derive calls, at any level, refused ones included: the first gets a chart with nothing in it and
 -- count 0, each later one the chart that the call before handed back"

@@ -1,0 +1,3 @@
+pub mod Stops
+pub mod Numbers
+pub mod Anchors

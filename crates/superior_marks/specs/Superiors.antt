@@ -1,0 +1,26 @@
+-- What the rows of superiors are made from: the columns of bigs and zones, and bars among the ends of bigs. Assumes nothing.
+use Prim.Native.Nat.{ℕ, _<_, _≤_}
+use mathlib.Core.List.{List, map, List·Memᴰ}
+use lib.ListN.{length}
+use Rattle.chart.specs.declared.Triple.{Triple}
+use Rattle.chart.specs.declared.Zone.{Zone}
+use Rattle.rules.specs.Records.{Levels}
+use Rattle.rules.specs.Ranges.{rangeOf}
+use Rattle.laws.proofs.Lists.{All}
+use Rattle.laws.proofs.Earlier.{Rising}
+use Rattle.columns.specs.Columns.{Column, endOf}
+use Rattle.scan.specs.Scan.{Scanning}
+
+-- the columns of the m bigs, and of the n zones with their scans
+pub record Stood (c : Levels) (zs : List Zone) (m n : ℕ) (ways ends owners sides froms limits : List ℕ) : Type 0 where
+  pub by-way : Column (λ (t : Triple). t .direction) m ways (c .bigs)
+  pub by-end : Column endOf m ends (map (rangeOf c) (c .bigs))
+  pub by-owner : Column (λ (z : Zone). z .«sup_idx») n owners zs
+  pub scans : Scanning c zs n sides froms limits
+
+-- Rising bars among these ends, at most 256 bars that a u16 holds. So there are at most 256 of them
+pub record Among (ends bars : List ℕ) : Type 0 where
+  pub few : length ends ≤ 256
+  pub small : All (λ (b : ℕ). b < 0x1_0000) ends
+  pub rising : Rising bars
+  pub there : All (λ (b : ℕ). List·Memᴰ b ends) bars

@@ -1,0 +1,238 @@
+-- `three_n::bigseg_3n_marks_all_zhongshu` meets its contract. Assumes nothing.
+use native.Mathlib.Omega.{arith}
+use mathlib.Core.Path.{_≡_, refl, sym, _∙_}
+use mathlib.Core.Bool.{false}
+use lib.ListN.{take}
+use borrow.Author.Needs.{needs}
+use Rattle.chart.specs.declared.Chart.{Chart}
+use Rattle.rules.specs.Answer.{rowsAnswer}
+use Rattle.rules.specs.Records.{levelsOf, Quotes}
+use Rattle.rules.specs.Ranges.{rangeOf}
+use Rattle.rules.specs.Zones.{overlapZones}
+use Rattle.rules.specs.Refusals.{badChart, endsOutside, zonesRefusal}
+use Rattle.rules.specs.Calls.{zonesCall}
+use Rattle.laws.proofs.Answers.{Counted, counted, Rows}
+use Rattle.zones.proofs.Call.{zones-good}
+use Rattle.scan.specs.Scan.{quotesRefusal}
+use Rattle.scan.proofs.Quotes.{quotes-fit, zones-refused, zones-found}
+use Rattle.third.proofs.Call.{zones-own}
+use Rattle.three_n.proofs.Parts.{ends-inside}
+use Rattle.three_n.proofs.Refused.{n-bad, n-quotes, n-outside, n-many, n-given}
+use Rattle.three_n.proofs.bigseg_3n_marks_all_zhongshu.Statement.{statement}
+use Rattle.three_n.proofs.bigseg_3n_marks_all_zhongshu.Tie as tie
+
+abbrev start : tie.Else1 → tie.Start
+start c = c .before .before .before .before
+
+-- the chart is not refused with 21
+good : (c : tie.Else1) → badChart (start c .args .chart) ≡ false
+good c = sym (c .before .bad-chart .ensures) ∙ c .if1 .left
+
+counts : (c : tie.Else1) → Counted (start c .args .chart)
+counts c = counted _ (good c)
+
+abbrev quotes : tie.Else1 → Quotes
+quotes c = record { highs = start c .args .highs .now; lows = start c .args .lows .now }
+
+-- nor with 8 or 1
+passed : (c : tie.Else2) → 0 ≡ quotesRefusal (quotes (c .before .before)) 0
+passed c = sym (c .if2 .left) ∙ c .before .quotes-refusal .ensures
+
+abbrev else1 : tie.Else2 → tie.Else1
+else1 c = c .before .before
+
+abbrev else2 : tie.Else3 → tie.Else2
+else2 c = c .before .before .before .before
+
+-- nor with 9
+within : (c : tie.Else3) → endsOutside (levelsOf (start (else1 (else2 c)) .args .chart)) (quotes (else1 (else2 c))) ≡ false
+unfolding endsOutside levelsOf
+within c = sym (c .before .ends-outside .ensures) ∙ c .if3 .left
+
+abbrev else3 : tie.After-overlap → tie.Else3
+else3 c = c .before .before .before .before .before .before .before .before .before .before .before .before .before .before .before .before
+
+abbrev chart-of : tie.After-overlap → Chart
+chart-of c = start (else1 (else2 (else3 c))) .args .chart
+
+superiors-are : (c : Chart) → take (c .«superior_count») (c .superiors) ≡ levelsOf c .superiors
+unfolding levelsOf
+superiors-are c = refl
+
+-- the answer is that of the zone call
+zones : (c : tie.After-overlap) → rowsAnswer (c .overlap .result .number) (c .overlap .result .count) (c .overlap .result .rows) ≡ zonesCall (chart-of c)
+unfolding levelsOf
+zones c =
+    c .overlap .ensures .0 (rangeOf (levelsOf (chart-of c))) (c .before .before .before .before .before .before .bigs-of .ensures .0)
+    ∙ zones-good (chart-of c) (good (else1 (else2 (else3 c))))
+
+-- the first rows are the chart's zones, and there are no more of them
+found : (c : tie.Else4) → Rows (c .before .before .overlap .result .count) (c .before .before .overlap .result .rows) (zonesRefusal (levelsOf (chart-of (c .before .before)))) (overlapZones (levelsOf (chart-of (c .before .before))))
+found c = let at-overlap = c .before .before in zones-found _ (good (else1 (else2 (else3 at-overlap)))) _ _ _ (zones at-overlap) (c .if4 .left)
+
+bad-chart-requires : tie.Need-bad-chart-requires
+bad-chart-requires c κs = search needs
+
+refusal-requires : tie.Need-refusal-requires
+refusal-requires c κs = search needs
+
+returns : tie.Need-returns
+returns c =
+    let at-bad = c .before .before in
+    c .refusal .ensures ∙ n-bad _ _ (sym (at-bad .bad-chart .ensures) ∙ c .before .if1 .taken)
+
+quotes-refusal-requires : tie.Need-quotes-refusal-requires
+quotes-refusal-requires c κs = search needs
+
+refusal-requires-2 : tie.Need-refusal-requires-2
+refusal-requires-2 c κs = search needs
+
+returns-2 : tie.Need-returns-2
+returns-2 c =
+    let at-quotes = c .before .before in
+    c .refusal2 .ensures ∙ n-quotes _ (quotes (at-quotes .before)) (good (at-quotes .before)) _ (at-quotes .quotes-refusal .ensures) (c .before .if2 .taken)
+
+cast-ends-outside : tie.Need-cast-ends-outside
+cast-ends-outside c = search needs
+
+ends-outside-requires : tie.Need-ends-outside-requires
+ends-outside-requires c κs = counts (else1 (c .before .before)) .strokes
+
+refusal-requires-3 : tie.Need-refusal-requires-3
+refusal-requires-3 c κs = search needs
+
+returns-3 : tie.Need-returns-3
+unfolding endsOutside levelsOf
+returns-3 c =
+    let at-ends = c .before .before in
+    let e2 = at-ends .before .before .before in
+    c .refusal3 .ensures
+    ∙ n-outside _ (quotes (else1 e2)) (good (else1 e2)) (passed e2) (sym (at-ends .ends-outside .ensures) ∙ c .before .if3 .taken)
+
+cast-m : tie.Need-cast-m
+cast-m c = search needs
+
+cast-h : tie.Need-cast-h
+cast-h c = search needs
+
+slice-aggregate-bigs-of : tie.Need-slice-aggregate-bigs-of
+slice-aggregate-bigs-of c = search needs
+
+slice-aggregate-bigs-of-2 : tie.Need-slice-aggregate-bigs-of-2
+slice-aggregate-bigs-of-2 c = search needs
+
+slice-aggregate-bigs-of-3 : tie.Need-slice-aggregate-bigs-of-3
+slice-aggregate-bigs-of-3 c = search needs
+
+slice-aggregate-bigs-of-4 : tie.Need-slice-aggregate-bigs-of-4
+slice-aggregate-bigs-of-4 c = search needs
+
+slice-aggregate-bigs-of-5 : tie.Need-slice-aggregate-bigs-of-5
+slice-aggregate-bigs-of-5 c = search needs
+
+bigs-of-requires : tie.Need-bigs-of-requires
+bigs-of-requires c κs =
+    let n = counts (else1 (else2 (c .before .before .before .before .before .before .before .before .before))) in
+    ((n .strokes, n .segments, n .bigs), (refl, refl, refl, refl, refl))
+
+overlap-requires : tie.Need-overlap-requires
+overlap-requires c κs =
+    let n = counts (else1 (else2 (c .before .before .before .before .before .before .before .before .before .before .before .before .before .before .before))) in
+    (n .superiors, n .bigs)
+
+refusal-requires-4 : tie.Need-refusal-requires-4
+refusal-requires-4 c κs = search needs
+
+returns-4 : tie.Need-returns-4
+returns-4 c =
+    let at-overlap = c .before .before .before in
+    let e3 = else3 at-overlap in
+    let e1 = else1 (else2 e3) in
+    c .refusal4 .ensures
+    ∙ n-many _ (quotes e1) (good e1) (passed (else2 e3)) (within e3) _ (zones-refused _ (good e1) _ _ _ (zones at-overlap) (c .before .if4 .taken)) (c .before .if4 .taken)
+
+cast-n : tie.Need-cast-n
+cast-n c = search needs
+
+slice-aggregate-marks-of : tie.Need-slice-aggregate-marks-of
+slice-aggregate-marks-of c = search needs
+
+slice-aggregate-marks-of-2 : tie.Need-slice-aggregate-marks-of-2
+slice-aggregate-marks-of-2 c = search needs
+
+slice-aggregate-marks-of-3 : tie.Need-slice-aggregate-marks-of-3
+slice-aggregate-marks-of-3 c = search needs
+
+slice-aggregate-marks-of-4 : tie.Need-slice-aggregate-marks-of-4
+slice-aggregate-marks-of-4 c = search needs
+
+slice-aggregate-marks-of-5 : tie.Need-slice-aggregate-marks-of-5
+slice-aggregate-marks-of-5 c = search needs
+
+marks-of-requires : tie.Need-marks-of-requires
+marks-of-requires c κs =
+    let e4 = c .before .before .before .before .before .before .before in
+    let at-overlap = e4 .before .before in
+    let e3 = else3 at-overlap in
+    let e1 = else1 (else2 e3) in
+    let n = counts e1 in
+    let fit = quotes-fit _ _ (passed (else2 e3)) in
+    let bigs = at-overlap .before .before .before .before .before .before .bigs-of .ensures .1 in (
+      (at-overlap .overlap .ensures .1, n .superiors, n .bigs, fit .0, fit .1),
+      (
+        (bigs .by-way .long, bigs .by-start .long, bigs .by-end .long, bigs .by-point .long, omega (arith, slice-aggregate-marks-of-5 c, n .bigs)),
+        (
+          zones-own _ (at-overlap .overlap .result .count) (at-overlap .overlap .result .rows) (found e4 .same),
+          (
+            levelsOf (chart-of at-overlap),
+            record { bigs = bigs; level = superiors-are (chart-of at-overlap); zones-are = found e4 .same; inside = ends-inside _ _ (within e3) (fit .2) },
+          ),
+        ),
+      ),
+    )
+
+returns-5 : tie.Need-returns-5
+returns-5 c =
+    let e4 = c .before .before .before .before .before .before .before .before in
+    let at-overlap = e4 .before .before in
+    let e3 = else3 at-overlap in
+    let e1 = else1 (else2 e3) in
+    let fit = quotes-fit _ _ (passed (else2 e3)) in
+    let bigs = at-overlap .before .before .before .before .before .before .bigs-of .ensures .1 in
+    c .marks-of .ensures (levelsOf (chart-of at-overlap))
+    (record { bigs = bigs; level = superiors-are (chart-of at-overlap); zones-are = found e4 .same; inside = ends-inside _ _ (within e3) (fit .2) })
+    ∙ n-given _ (quotes e1) (good e1) (passed (else2 e3)) (within e3) (found e4 .accepted)
+
+pub bigseg-3n-marks-all-zhongshu-spec : {M : Type 1} → statement M
+bigseg-3n-marks-all-zhongshu-spec =
+    tie.close
+    (tie.spec
+    bad-chart-requires
+    refusal-requires
+    returns
+    quotes-refusal-requires
+    refusal-requires-2
+    returns-2
+    cast-ends-outside
+    ends-outside-requires
+    refusal-requires-3
+    returns-3
+    cast-m
+    cast-h
+    slice-aggregate-bigs-of
+    slice-aggregate-bigs-of-2
+    slice-aggregate-bigs-of-3
+    slice-aggregate-bigs-of-4
+    slice-aggregate-bigs-of-5
+    bigs-of-requires
+    overlap-requires
+    refusal-requires-4
+    returns-4
+    cast-n
+    slice-aggregate-marks-of
+    slice-aggregate-marks-of-2
+    slice-aggregate-marks-of-3
+    slice-aggregate-marks-of-4
+    slice-aggregate-marks-of-5
+    marks-of-requires
+    returns-5)
