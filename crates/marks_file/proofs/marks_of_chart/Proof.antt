@@ -1,0 +1,60 @@
+-- `marks_file::marks_of_chart` meets its contract. Assumes nothing.
+use native.Mathlib.Omega.{arith}
+use mathlib.Core.Path.{_≡_, sym, _∙_}
+use lib.ListN.{length}
+use borrow.Author.Needs.{needs}
+use Rattle.rules.specs.Records.{Quotes}
+use Rattle.laws.proofs.Arrays.{length-via}
+use Rattle.marks_file.proofs.Called.{call-refused, call-given, rows-few, rows-priced}
+use Rattle.marks_file.proofs.marks_of_chart.Statement.{statement}
+use Rattle.marks_file.proofs.marks_of_chart.Tie as tie
+
+abbrev start : tie.After-bigseg-3n-marks-all-zhongshu → tie.Start
+start c = c .before .before .before
+
+abbrev quotes : tie.Start → Quotes
+quotes c = record { highs = c .args .highs .now; lows = c .args .lows .now }
+
+rows-long : (c : tie.After-bigseg-3n-marks-all-zhongshu) → length (c .bigseg-3n-marks-all-zhongshu .result .rows) ≡ 512
+rows-long c = search (needs, length-via)
+
+bigseg-3n-marks-all-zhongshu-requires : tie.Need-bigseg-3n-marks-all-zhongshu-requires
+bigseg-3n-marks-all-zhongshu-requires c κs = search needs
+
+refused-line-requires : tie.Need-refused-line-requires
+refused-line-requires c κs = search needs
+
+returns : tie.Need-returns
+returns c =
+    let called = c .before .before .before in
+    let s = start called in (
+      c .refused-line .ensures .0 ∙ sym (call-refused _ (quotes s) (s .pre) _ _ _ (called .bigseg-3n-marks-all-zhongshu .ensures) (λ z. omega (arith, z, c .before .if1 .taken))),
+      c .refused-line .ensures .1,
+    )
+
+marks-text-requires : tie.Need-marks-text-requires
+marks-text-requires c κs =
+    let called = c .before .before .before in
+    let s = start called in (
+      omega (arith, rows-few _ (quotes s) (s .pre) _ _ _ (called .bigseg-3n-marks-all-zhongshu .ensures) (c .before .if1 .left), rows-long called),
+      rows-priced _ (quotes s) (s .pre) _ _ _ (called .bigseg-3n-marks-all-zhongshu .ensures) (c .before .if1 .left),
+    )
+
+returns-2 : tie.Need-returns-2
+returns-2 c =
+    let else1 = c .before .before in
+    let called = else1 .before .before in
+    let s = start called in (
+      c .marks-text .ensures .0 ∙ sym (call-given _ (quotes s) (s .pre) _ _ _ (called .bigseg-3n-marks-all-zhongshu .ensures) (else1 .if1 .left)),
+      c .marks-text .ensures .1,
+    )
+
+pub marks-of-chart-spec : {M : Type 1} → statement M
+marks-of-chart-spec =
+    tie.close
+    (tie.spec
+    bigseg-3n-marks-all-zhongshu-requires
+    refused-line-requires
+    returns
+    marks-text-requires
+    returns-2)
