@@ -1,5 +1,5 @@
 """Charts as Python values, packed into chart files (document 01, "Chart file"), and a generator with a seed."""
-import random, struct
+import random, struct, subprocess
 
 class Chart:
     """strokes: (direction, start bar, end bar, start price, end price); the other levels: (direction, first, last); bars: (high, low)"""
@@ -36,7 +36,7 @@ def cut(data):
     return out
 
 # what `report` prints, in its order, as oracle/main.rs names it
-SECTIONS = ["zones", "third", "labels", "classes", "firsts"]
+SECTIONS = ["zones", "third", "threen", "labels", "classes", "firsts"]
 
 def turns(points, up=True):
     """strokes from turn (bar, price) to turn"""
@@ -205,6 +205,58 @@ THIRDS = [
     steps([1, 0, 1, 0], [(1, 1, 1)], [1] * 4),                                          # C is the end price
 ]
 
+# The same of 3+N marks. A step that does not rise is down; a low of 2 is a hit, of a zone and of an anchor, unless the case at hand keeps it out
+NUMBERED = [
+    steps([2, 0, 1, 0, 1, 0], [(1, 1, 1), (1, 0, 0)], [0, 0, 0, 2, 0, 0]),              # 1: numbered behind a mark of another superior's zone
+    steps([0, 2, 0, 0, 1, 0], [(1, 1, 1)], [2] * 6, {2: (1, 2, 2)}, {4: (4, 2)}),       # 1: or behind an anchor's
+    steps([0, 0, 0, 1, 0], [(1, 1, 1)], [0, 0, 2, 0, 0]),                               # 1: a mark that is not among the superior's bars numbers none
+    steps([0, 1, 0], [(1, 0, 1)], [0] * 3, {}, {1: (1, 0)}),                            # 1: no order-0 mark among them, no row
+    steps([0, 0, 1, 0, 1, 0], [(1, 1, 1), (1, 0, 0)], [2] * 6, {2: (1, 2, 2)}),         # 1: after the first of them, not the last
+    steps([0, 1, 0, 0, 1], [(1, 3, 3), (0, 0, 0)], [2] * 5),                            # 1: one of the other side does not count
+    steps([2, 0, 1, 0, 1, 0, 1, 0], [(1, 0, 0), (1, 0, 2)], [2] * 8, {}, {4: (4, 1)}),  # 1: nor does a numbered row of an earlier superior
+    steps([0, 0, 1, 0], [(1, 1, 1), (0, 0, 0)], [2] * 4),                               # 2: an anchor's third mark has order 0
+    steps([0, 0, 1, 2, 0], [(1, 0, 0)], [0, 0, 0, 2, 0]),                               # orders from 1 on are not filtered by zg
+    steps([0, 0, 1, 0, 1, 2, 0], [(1, 0, 2)], [2] * 7),                                 # an order-0 mark among the numbered takes no number
+    steps([2, 1, 2, 0, 1, 0, 1, 0], [(1, 0, 4)], [2] * 5 + [3, 2, 2], {2: (1, 2, 2)}, {2: (2, 6), 6: (6, 3)}),  # nor does it begin anew
+    steps([1, 0] * 5, [(1, 0, 2), (1, 0, 0)], [0, 0, 0, 2, 0, 0, 0, 2, 0, 0]),          # superiors ascending, each from 1
+    steps([0, 1, 2, 0, 0, 0, 0], [(0, 0, 1)], [0] * 7, {}, {}, 0.0),                    # a bar of two zones is numbered once
+    steps([0, 0, 1, 0], [(1, 0, 2)], [2] * 4, {0: (1, 0, 0)}, {2: (2, 0)}),             # in the order of bars
+    steps([0, 0, 0, 1, 0], [(1, 1, 1)], [2] * 5),                                       # on a repeat the larger order is dropped
+    steps([0, 0, 0, 0, 0, 1], [(1, 2, 2)], [2] * 6),                                    # and the smaller of two anchors replaces it
+    steps([0, 0, 1, 0, 2, 0, 0, 0], [(1, 2, 2)], [2, 2, 2, 3, 2, 2, 3, 2]),             # an anchor's replaces a superior's, in the earlier row's place
+    steps([1, 2, 0, 1, 0, 0, 0], [(1, 1, 1), (0, 0, 5)], [2] * 7, {}, {}, 0.0),         # a bar may have a row of each side
+    steps([0, 0, 1, 0, 1, 0], [(1, 0, 0), (1, 0, 0)], [2] * 6, {2: (1, 2, 2)}),         # 9: a superior's repeat uses up its number
+    steps([0, 0, 0, 0, 1], [(1, 1, 1)], [2] * 5),                                       # 9: so does an anchor's; an anchor has all its hits, from 0
+    steps([0, 0, 1, 0, 0, 0], [(1, 1, 1)], [0, 0, 0, 0, 2, 2]),                         # a bar that is no hit takes no number, and ends nothing
+    steps([0, 0, 1, 0, 0], [(1, 1, 1)], [2] * 5, {}, {3: (3, 2)}),                      # 8: an anchor's hits are in index order
+    steps([0, 0, 1, 0, 0], [(1, 1, 1), (0, 0, 0)], [2] * 5),                            # 8: they stop at the limit
+    steps([0, 0, 0, 0, 1], [(1, 1, 1), (0, 0, 2)], [2] * 5),                            # 8: also where a big ends at it
+    steps([0, 0, 0, 0, 1], [(1, 1, 1), (0, 0, 1)], [2] * 5, {}, {1: (1, 4)}),           # 8: a later bar before the limit does not count, behind a hit
+    steps([0, 0, 0, 0, 0, 1], [(1, 1, 1), (0, 0, 1)], [0, 0, 0, 2, 2, 0], {}, {1: (1, 5)}),  # 8: nor behind a bar that is no hit
+    steps([0, 0, 0, 0, 1], [(1, 1, 1), (0, 0, 3), (0, 0, 0)], [2] * 5),                 # 8: the limit is the first opposite superior's, not a later one's
+    steps([0, 0, 0, 0, 1], [(1, 1, 1), (0, 0, 4), (0, 0, 0)], [2] * 5),                 # 8: without an end point there is no limit
+    steps([0, 0, 0, 0, 1], [(1, 1, 1), (0, 1, 0)], [2] * 5),                            # 8: first > last is a limit all the same
+    steps([0] * 5, [(1, 1, 1), (0, 0, 2)], [2] * 5, {2: (1, 3, 2)}),                    # 8: so is the end point of a big without a range
+    steps([0, 0, 0, 0, 1, 2, 0], [(1, 1, 1)], [2] * 7),                                 # superiors before anchors
+]
+
+def outside():
+    """K with a bar too few; K with a stroke that nothing names and that ends behind the bars: 3+N marks are refused with 9"""
+    few, unnamed = chart_k(), chart_k()
+    few.bars.pop()
+    unnamed.strokes.append((1, 38, 39, 19.0, 20.0))
+    return [few, unnamed]
+
+def all_bars():
+    """K whose last stroke ends at the last of 2,048 bars"""
+    return simple(K_TURNS[:-1] + [(2047, 19)], [(1, 0, 4)], [(40.0, {29: 26.0, 2047: 19.0}.get(i, 12.0)) for i in range(2048)])
+
+def bars_and_zones():
+    """256 zones; 257, refused with 11; 257 with a bar too few, where 3+N marks are refused with 9 before 11"""
+    s, t = ladder(16)
+    bars = [(0.0, 200.0)] * (s[-1][2] + 1)
+    return [Chart(s, t, t, [(1, 0, 15)] * 16 + more, bars[:n]) for more, n in (([], None), ([(1, 15, 15)], None), ([(1, 15, 15)], -1))]
+
 def many_thirds():
     """509 third marks: 255 sells of zones and 254 buys of anchors"""
     s = [(0, 255, i, 2.0, 1.0) for i in range(255)] + [(1, 0, 255, 5.0, 7.0)]
@@ -354,6 +406,23 @@ def third_like(r):
             segments[k] = (d, n, k)
     return Chart(strokes, segments, bigs, superiors_over(r, n))
 
+def numbered_like(r):
+    """bigs of one stroke each, many of them against the first superior, which leaves some before it; superiors that overlap, bars mostly in order,
+    and lent prices of which most are hits"""
+    n, grid, d = r.randrange(4, 20), r.choice([1, 2, 4]), r.randrange(2)
+    odd, moved, high = r.choice([0, 0, 0.1]), r.choice([0, 0.1, 0.3, 0.5]), r.choice([0.0, grid / 2, grid + 1.0, grid + 5.0])
+    prices = [float(r.randrange(grid + 1)) for _ in range(n + 1)]
+    end = lambda i: r.randrange(n + 1) if r.random() < moved else i + 1
+    strokes = [(int(p < q), i, end(i), p, q) for i, (p, q) in enumerate(zip(prices, prices[1:]))]
+    bigs = [(1 - up if r.random() < odd else up, i + (r.random() < odd), i) for up, i, _ in one_each(strokes)]
+    superiors = [(1, r.randrange(min(n, 5)), r.randrange(n))]
+    for _ in range(r.choice([0, 1, 2, 3])):
+        first = r.randrange(n)
+        superiors.append((r.randrange(2), first, r.randrange(first, n) if r.random() < 0.7 else r.choice([r.randrange(n), n, n, 65535])))
+    lows = r.choice([[grid + 1.0], [grid + 1.0, grid + 2.0, 0.0], [0.0, float(grid), grid + 1.0], [float(x) for x in range(grid + 2)]])
+    c = Chart(strokes, one_each(strokes), bigs, superiors, [(high, r.choice(lows)) for _ in range(n + 1 - (r.random() < 0.1))])
+    return c if d else mirrored(c)
+
 def crowded(r):
     """as many zones as there may be, about: a ladder under superiors that have all of it, or the last of them a part, and a leave with its retest"""
     n, zones = r.randrange(4, 65), r.choice([255, 256, 257, 300])
@@ -397,8 +466,8 @@ def lent(r, c):
 
 def generated(seed, i):
     r = random.Random(f"{seed} {i}")
-    c = r.choices([live_like, wild, first_like, third_like, crowded], [25, 25, 25, 24, 1])[0](r)
-    c.bars = lent(r, c)
+    c = r.choices([live_like, wild, first_like, third_like, numbered_like, crowded], [21, 21, 21, 21, 15, 1])[0](r)
+    c.bars = c.bars or lent(r, c)
     return c
 
 def special():
@@ -408,7 +477,7 @@ def special():
     odd = simple(K_TURNS, [(1, 65535, 4), (1, 0, 65535), (1, 65535, 65535), (0, 5, 2), (1, 0, 8), (1, 1, 1)])
     short = chart_k()
     short.bars = short.bars[:29]
-    return [Chart(), chart_k(), chart_k(20.0), short, touching(), three_members(), of_one(1), of_one(255), of_one(256), too_many(), far_too_many(), overlapping, missing, odd, named(256)] + [full(s, bars=1024 * (name == "short")) for name, s in SHAPES.items()] + for_classes() + THIRDS + [mirrored(c) for c in THIRDS] + [many_thirds()]
+    return [Chart(), chart_k(), chart_k(20.0), short, touching(), three_members(), of_one(1), of_one(255), of_one(256), too_many(), far_too_many(), overlapping, missing, odd, named(256)] + [full(s, bars=1024 * (name == "short")) for name, s in SHAPES.items()] + for_classes() + THIRDS + [mirrored(c) for c in THIRDS] + [many_thirds()] + NUMBERED + [mirrored(c) for c in NUMBERED] + outside() + bars_and_zones() + [all_bars()]
 
 def for_classes():
     """first marks of each side, in and out of order and at one bar; the borders of each comparison; 1, 2 and 6 items (6: P5); one or two, the last of
@@ -446,6 +515,11 @@ def small_file():
     """a record of each kind at least, with a zone and a third mark"""
     s = [(1, 0, 1, 1.0, 2.0), (0, 1, 0, 2.0, 1.0)]
     return Chart(s, one_each(s), one_each(s), [(1, 0, 1)], [(4.0, 3.0)]).pack()
+
+def numbered_file():
+    """a record of each kind at least, with a third mark and one of order 1"""
+    s = [(0, 0, 0, 1.0, 0.0), (1, 0, 0, 0.0, 0.0), (1, 0, 0, 0.0, 0.0), (0, 0, 1, 0.0, 0.0)]
+    return Chart(s, one_each(s), one_each(s), [(1, 0, 0)], [(4.0, 3.0), (4.0, 3.0)]).pack()
 
 def each_byte(data):
     """every truncation and every change of one byte"""
@@ -486,3 +560,96 @@ def without(parts, k):
             return p
         return p[:3] + struct.pack("<HH", *(i - (i > place) for i in struct.unpack("<HH", p[3:7]))) + p[7:]
     return [lowered(p) for i, p in enumerate(parts) if i != k]
+
+def printed(program, data):
+    """what a program prints for a file; where it does not end within 20 seconds or ends otherwise than with 0, that too"""
+    try:
+        run = subprocess.run([program], input=data, capture_output=True, timeout=20)
+    except subprocess.TimeoutExpired:
+        return b"no end\n"
+    return run.stdout + (b"ended with %d\n" % run.returncode if run.returncode else b"")
+
+def shrunk(data, differs):
+    """a file that still differs: drops records, from the last to the first, and then stretches of bytes"""
+    parts = records(data)
+    for k in [*reversed(range(len(parts)))] * 2:
+        if k < len(parts) and differs(b"".join(without(parts, k))):
+            parts = without(parts, k)
+    data = b"".join(parts)
+    size = len(data) // 2
+    while size:
+        at = 0
+        while at < len(data):
+            less = data[:at] + data[at + size:]
+            if differs(less):
+                data = less
+            else:
+                at += size
+        size //= 2
+    return data
+
+# ---- files for the program marks
+
+def spoilt(r, data):
+    """one record, or two, with a wrong direction, an odd price, both, another mark, or cut"""
+    parts = records(data)
+    for _ in range(r.choice([1, 1, 2])):
+        k = r.randrange(len(parts)) if parts else 0
+        p = bytearray(parts[k]) if parts else bytearray()
+        how = r.randrange(5)
+        if how in (0, 2) and len(p) in (7, 23):
+            p[2] = r.choice([2, 2, 255, r.randrange(2, 256)])
+        if how in (1, 2) and len(p) in (18, 23):
+            at = len(p) - r.choice([8, 16])
+            p[at:at + 8] = r.choice(ODD_BITS).to_bytes(8, "little")
+        if how == 3:
+            p[:2] = r.choice([b"st", b"TS", b"BT", b"SS", b"\0\0", b"RB", *WIDTHS])
+        if how == 4:
+            del p[r.randrange(len(p) + 1):]
+        parts[k:k + 1] = [bytes(p)]
+    return b"".join(parts)
+
+def brim(r):
+    """a level or the bars full to the last place, or one record over, the last of them at times spoilt; at times all of them full"""
+    c = full(r.choice([*SHAPES.values()]), r.randrange(9), 2048)
+    c.strokes[-1] = (*c.strokes[-1][:2], 2047, *c.strokes[-1][3:])
+    rows = c.kinds()
+    rows[4] = rows[4] * (256 // len(rows[4]))
+    if r.random() < 0.7:
+        k = r.randrange(5)
+        rows = [row if i == k else row[:r.randrange(9)] for i, row in enumerate(rows)]
+    data = b"".join(b"".join(row) for row in rows)
+    how = r.random()
+    if how < 0.6:
+        last = r.choice([row for row in rows if row])[-1]
+        data += spoilt(r, last) if how < 0.3 else last
+    return data + r.choice([b"", b"", b"B", b"BR", bytes(r.randrange(20)), b"BR" * 40000])
+
+def random_records(r):
+    """records of any kind with small numbers in them, or any bytes"""
+    if r.random() < 0.2:
+        return bytes(r.randrange(256) for _ in range(r.randrange(60)))
+    out = b""
+    for _ in range(r.randrange(40)):
+        mark = r.choice([*WIDTHS])
+        field = lambda n: struct.pack("<H", r.choice([0, 1, 2, r.randrange(n)]))
+        if mark == b"BR":
+            out += mark + struct.pack("<dd", *(float(r.randrange(-3, 4)) for _ in range(2)))
+        else:
+            out += mark + bytes([r.choice([0, 0, 0, 1, 1, 1, r.randrange(3)])]) + field(9) + field(9)
+            if mark == b"ST":
+                out += struct.pack("<dd", *(float(r.randrange(-3, 4)) for _ in range(2)))
+    return out
+
+def for_marks(seed, i):
+    """a file: a generated chart, its records in order or mingled, as it is, damaged or spoilt; a chart made for a purpose; or one of those above"""
+    r = random.Random(f"marks {seed} {i}")
+    how = r.random()
+    if how < 0.02:
+        return brim(r)
+    if how < 0.07:
+        return random_records(r)
+    c = r.choice(NUMBERED + THIRDS) if how < 0.12 else generated(seed, i)
+    c = mirrored(c) if how < 0.12 and r.random() < 0.5 else c
+    data = c.mingled(r) if r.random() < 0.5 else c.pack()
+    return r.choices([data, damaged(r, data), spoilt(r, data)], [70, 15, 15])[0]

@@ -216,6 +216,7 @@ fn report(bytes: &[u8], sections: &[String], out: &mut String) {
                 *out += &format!("LABELS {}\n", l.len());
                 for l in l { *out += &format!("{}\n", l.label); }
             }
+            "threen" if c.strokes.iter().any(|s| s.end_bar >= c.highs.len()) => *out += "THREEN refused 9\n",
             "third" | "threen" if zones.len() > 256 => *out += &format!("{} refused 11\n", s.to_uppercase()),
             "third" => {
                 let ms = z::bigseg_third_marks_all_zhongshu(&c.superiors, &c.bigs, &c.segments, &c.strokes, &c.highs, &c.lows);
@@ -228,7 +229,6 @@ fn report(bytes: &[u8], sections: &[String], out: &mut String) {
                     *out += &format!("{} {} {} {what} {}\n", side(m.is_buy), m.bar_index, hex(m.price), hex(ground));
                 }
             }
-            "threen" if c.strokes.iter().any(|s| s.end_bar >= c.highs.len()) => *out += "THREEN refused 9\n",
             "threen" => {
                 let ms = z::bigseg_3n_marks_all_zhongshu(&c.superiors, &c.bigs, &c.segments, &c.strokes, &c.highs, &c.lows);
                 *out += &format!("THREEN {}\n", ms.len());

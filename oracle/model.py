@@ -1,7 +1,7 @@
 """A model of document 01, independent of the definitions, with a switch for each reading that is rejected (SW holds those that are on): where a
 switch changes an answer, the chart tells the two readings apart. The facts of crates/rules/proofs/Readings.antt and Borders.antt were found so.
 A chart: strokes (d, start bar, end bar, start price, end price), segs, bigs, sups (d, first, last), highs, lows."""
-import inspect, re
+import inspect, re, struct
 from collections import namedtuple
 Chart = namedtuple('Chart', 'strokes segs bigs sups highs lows')
 Zone = namedtuple('Zone', 'sup start end zd zg dd gg first members')
@@ -211,96 +211,137 @@ def third_switches():
     return list(dict.fromkeys(re.findall(r"on\('([^']+)'\)", asked)))
 
 # ---- 3+N: (buy, order, bar, price)
+EVENTS = set()  # what the rows of the last call of n3 do not show of it
 def push(out, buy, bar, price, order):
+    """whether the row is new"""
     for i, m in enumerate(out):
         if (m[0] == buy or on('push-bar-only')) and m[2] == bar:
             better = order > m[1] if on('repeat-larger') else order < m[1]
             if on('repeat-first-stays'): better = False
+            if on('repeat-last-stays'): better = True
             if better:
+                EVENTS.add('a smaller order replaces a larger')
                 if on('repeat-moves'): del out[i]; out.append((buy, order, bar, price))
                 else: out[i] = (buy, order, bar, price)
             return False
     out.append((buy, order, bar, price)); return True
 
-def n3(c):
-    zs = zones(c)
-    th = third(c, with_anchors=not on('r2-zone-marks-only'))
-    out = [(m[0], 0, m[1], m[2]) for m in th]
-    zero = lambda buy, bar: any(m[0] == buy and m[1] == bar for m in th)
-    if on('r1-own-zones-only'): pass
-    for h, s in enumerate(c.sups):
-        buy = s[0] == 1
-        bars = []
-        for z in zs:
-            if z.sup == h: bars += scan(c, zs, z)
-        seen = []
-        for b in bars:
-            if b not in seen or on('bars-not-unique'): seen.append(b)
-        bars = seen if on('bars-not-sorted') else sorted(seen)
-        own = set()
-        if on('r1-own-zones-only'):
-            for z in zs:
-                if z.sup == h:
-                    edge = z.zg if buy else z.zd
-                    for b in scan(c, zs, z):
-                        if beats(c, buy, edge, b): own.add(b); break
-        is0 = (lambda b: b in own) if on('r1-own-zones-only') else (lambda b: zero(buy, b))
-        if on('zero-any-side'): is0 = lambda b: any(m[1] == b for m in th)
-        if on('r1-anywhere'):
-            firsts = [m[1] for m in th if m[0] == buy]
-            todo = [b for b in bars if firsts and b > min(firsts)]
-        elif on('r1-first-row'):
-            firsts = [m[1] for m in th if m[0] == buy]
-            todo = [b for b in bars if firsts and b > firsts[0]]
-        elif on('r1-none-needed'):
-            todo = bars
-        else:
-            i = next((i for i, b in enumerate(bars) if is0(b)), None)
-            todo = [] if i is None else bars[i + 1:]
-        order = 1
-        for b in todo:
-            if zero(buy, b) and not (on('r1-own-zones-only') and b not in own):
+def superior_bars(c, zs, h):
+    """the bars of the pairs that the scans of a superior's zones pass, unique and sorted"""
+    bars = []
+    for z in zs:
+        if z.sup == h: bars += scan(c, zs, z)
+    if len(bars) > len(set(bars)): EVENTS.add('a bar of two zones of a superior')
+    seen = []
+    for b in bars:
+        if b not in seen or on('bars-not-unique'): seen.append(b)
+    return seen if on('bars-not-sorted') else sorted(seen)
+
+def own_hits(c, zs, h):
+    """the bars of the third marks of a superior's own zones"""
+    buy = c.sups[h][0] == 1
+    out = set()
+    for z in zs:
+        if z.sup == h:
+            hits = [b for b in scan(c, zs, z) if beats(c, buy, z.zg if buy else z.zd, b)]
+            out |= set(hits[:1])
+    return out
+
+def to_number(c, zs, th, h, bars):
+    """those of a superior's bars that come after the first order-0 mark of its side"""
+    buy = c.sups[h][0] == 1
+    sides = [m[1] for m in th if m[0] == buy or on('zero-any-side')]
+    if on('r1-own-zones-only'): sides = own_hits(c, zs, h)
+    if on('r1-none-needed'): return bars
+    if on('r1-anywhere'): return [b for b in bars if sides and b > min(sides)]
+    if on('r1-first-row'): return [b for b in bars if sides and b > sides[0]]
+    i = next((i for i, b in enumerate(bars) if b in sides), None)
+    if i is None: return []
+    if bars[i] not in own_hits(c, zs, h): EVENTS.add("numbered behind a mark that is not of the superior's zones")
+    if on('r1-last-zero'): i = max(i for i, b in enumerate(bars) if b in sides)
+    return bars[i + 1:]
+
+def superior_rows(c, zs, th, out):
+    order = 1
+    hs = range(len(c.sups))
+    for h in reversed(hs) if on('superiors-descending') else hs:
+        buy = c.sups[h][0] == 1
+        if on('numbered-count-as-zero'): th = [(m[0], m[2]) for m in out]
+        if not on('order-goes-on'): order = 1
+        for b in to_number(c, zs, th, h, superior_bars(c, zs, h)):
+            if any(m[0] == buy and m[1] == b for m in th):
+                EVENTS.add('an order-0 mark among the numbered')
                 if on('zeros-take-number'): order += 1
                 if on('zeros-restart'): order = 1
-                continue
-            if on('filter-by-zg'):
-                z0 = [z for z in zs if z.sup == h]
-                if not any(beats(c, buy, z.zg if buy else z.zd, b) for z in z0): continue
+                if not on('zeros-numbered'): continue
+            zg = [z.zg if buy else z.zd for z in zs if z.sup == h]
+            if on('filter-by-zg') and not any(beats(c, buy, p, b) for p in zg): continue
             new = push(out, buy, b, price_at(c, buy, b), order)
-            if on('r9-new-rows-only') and not new: continue
+            if not new: EVENTS.add("a superior's repeat uses up a number")
+            if on('r9-superiors-new-rows-only') and not new: continue
             order += 1
-    if c.sups:
-        buy = anchor_side(c)
-        lim = None
-        for s in c.sups:
-            if (s[0] == 1) == buy: continue
-            e = end_point(c, s[2])
-            if on('r8-limit-first-with-end') and e is None: continue
-            if on('r8-limit-in-order') and s[1] > s[2]: e = None
-            lim = None if e is None else e[2]
-            break
-        if on('no-limit'): lim = None
-        if on('limit-same-side'):
-            lim = None
-            for s in c.sups:
-                if (s[0] == 1) != buy: continue
-                e = end_point(c, s[2]); lim = None if e is None else e[2]; break
-        for a in anchors(c):
-            C = anchor_c(c, buy, a)
-            if C is None: continue
-            p = C[1][4]
-            order = 1 if on('anchor-from-one') else 0
-            for bar in anchor_bars(c, buy, a, C):
-                at = lim is not None and ((bar > lim) if on('limit-strict') else (bar >= lim))
-                hit = beats(c, buy, p, bar)
-                if at and on('r8-filter'): continue
-                if at and on('r8-hits-stop') and not hit: continue
-                if at: break
-                if hit:
-                    new = push(out, buy, bar, price_at(c, buy, bar), order)
-                    if on('r9-new-rows-only') and not new: continue
-                    order += 1
+
+def anchor_limit(c):
+    """the end bar of the first superior against the side"""
+    buy = anchor_side(c)
+    if on('no-limit'): return None
+    against = [s for s in c.sups if ((s[0] == 1) == buy) == on('limit-same-side')]
+    if on('r8-limit-last'): against = against[::-1]
+    for s in against:
+        e = end_point(c, s[2])
+        if on('r8-limit-needs-range') and e is not None and rng(c, c.bigs[s[2]]) is None: e = None
+        if on('r8-limit-in-order') and s[1] > s[2]: e = None
+        if e is None and on('r8-limit-first-with-end'): continue
+        if e is None: EVENTS.add('a first opposite superior without an end point')
+        return None if e is None else e[2]
+    return None
+
+def anchor_rows(c, out):
+    buy, lim = anchor_side(c), anchor_limit(c)
+    for a in anchors(c):
+        C = anchor_c(c, buy, a)
+        if C is None: continue
+        order = 1 if on('anchor-from-one') else 0
+        bars = anchor_bars(c, buy, a, C)
+        if on('r8-bars-sorted'): bars = sorted(bars)
+        hits = 0
+        for i, bar in enumerate(bars):
+            at = lim is not None and ((bar > lim) if on('limit-strict') else (bar >= lim))
+            hit = beats(c, buy, C[1][4], bar)
+            if at and any(b < lim and beats(c, buy, C[1][4], b) for b in bars[i:]):
+                EVENTS.add("an anchor's stop at a %s with a hit behind it" % ('hit' if hit else 'non-hit'))
+            if at and on('r8-filter'): continue
+            if at and on('r8-hits-stop') and not hit: continue
+            if at and on('r8-misses-stop') and hit: continue
+            if at: break
+            if not hit:
+                if on('misses-take-number'): order += 1
+                if on('first-miss-stops'): break
+                continue
+            hits += 1
+            new = push(out, buy, bar, price_at(c, buy, bar), order)
+            if on('anchor-first-hit-only'): break
+            if on('r9-anchors-new-rows-only') and not new: continue
+            order += 1
+            if not new: EVENTS.add("an anchor's repeat uses up a number")
+        if hits > 1: EVENTS.add('an anchor with several hits')
+
+def n3(c):
+    EVENTS.clear()
+    zs = zones(c)
+    th = third(c, with_anchors=not on('r2-zone-marks-only'))
+    out = [] if on('anchors-before-zeros') else [(m[0], 0, m[1], m[2]) for m in th]
+    if c.sups and (on('anchors-before-superiors') or on('anchors-before-zeros')): anchor_rows(c, out)
+    if on('anchors-before-zeros'):
+        for m in th: push(out, m[0], m[1], m[2], 0)
+    superior_rows(c, zs, th, out)
+    if c.sups: anchor_rows(c, out)
     return out
+
+def n3_switches():
+    """the switches that 3+N marks ask for, but those of the zones and of third marks"""
+    asked = ''.join(map(inspect.getsource, (push, superior_bars, to_number, superior_rows, anchor_limit, anchor_rows, n3)))
+    return list(dict.fromkeys(re.findall(r"on\('([^']+)'\)", asked)))
 
 # ---- labels
 def col_name(n):
@@ -425,7 +466,6 @@ def first_marks(c, byte, buy):
     return keep
 
 # ---- all sections, as oracle/main.rs prints them
-import struct
 def hx(x): return '%016X' % struct.unpack('>Q', struct.pack('>d', float(x)))[0]
 def side(b): return 'buy' if b else 'sell'
 def section(head, rows): return [f'{head} {len(rows)}'] + rows
@@ -434,13 +474,16 @@ def tried(head, rows):
     try: return section(head, rows())
     except (TypeError, IndexError): return [f'{head} refused 10']
 def class_rows(byte, items): return [f'{k[0]} {k[1]} {int(k[2])} {3 if k[3] else 2} {int(k[4])} {int(k[5])}' for k in classes(byte, items)]
+def nine(c):
+    """some stroke's end bar is outside the slices"""
+    return any(s[2] >= len(c.highs) for s in c.strokes)
 def report(c):
     zs = zones(c)
     many = len(zs) > 256
     o = ['ZONES refused 11'] if many else section('ZONES', [f'{z.sup} {z.start} {z.end} {hx(z.zd)} {hx(z.zg)} {hx(z.dd)} {hx(z.gg)} {z.first} {z.members}' for z in zs])
     o += ['THIRD refused 11'] if many else section('THIRD', [f'{side(m[0])} {m[1]} {hx(m[2])} {m[3]} {hx(m[4])}' for m in third(c)])
-    if many: o += ['THREEN refused 11']
-    elif any(s[2] >= len(c.highs) for s in c.strokes): o += ['THREEN refused 9']
+    if nine(c): o += ['THREEN refused 9']
+    elif many: o += ['THREEN refused 11']
     else: o += section('THREEN', [f'{side(m[0])} {m[1]} {m[2]} {hx(m[3])}' for m in n3(c)])
     o += ['LABELS refused 11'] if many else section('LABELS', labels(c))
     for head, items in (('seg', seg_items), ('big', big_items)):
@@ -448,3 +491,38 @@ def report(c):
     for head, buy in (('FIRSTBUY', True), ('FIRSTSELL', False)):
         for b in (0, 1): o += tried(f'{head} case3={b}', lambda: [f'{m[0]} {hx(m[1])}' for m in first_marks(c, b, buy)])
     return o
+
+# ---- the program marks: what it prints for a file
+SIZES = {b'ST': (21, 512), b'SG': (5, 256), b'BG': (5, 256), b'SU': (5, 256), b'BR': (16, 2048)}
+def price(b):
+    """a price, or None: not finite, or -0"""
+    bits = int.from_bytes(b, 'little')
+    if bits == 1 << 63 or bits >> 52 & 2047 == 2047: return None
+    return struct.unpack('<d', b)[0]
+def read(data):
+    """the chart in a file, or (number, place) where it is refused"""
+    rows = {kind: [] for kind in SIZES}
+    at = 0
+    while at < len(data):
+        kind = data[at:at + 2]
+        if len(kind) < 2: return 13, at
+        if kind not in SIZES: return 12, at
+        width, places = SIZES[kind]
+        r = data[at + 2:at + 2 + width]
+        if len(r) < width: return 13, at
+        if len(rows[kind]) == places: return 3, at
+        if kind != b'BR' and r[0] > 1: return 2, at
+        head = () if kind == b'BR' else (r[0], r[1] + 256 * r[2], r[3] + 256 * r[4])
+        tail = tuple(price(r[i:i + 8]) for i in range(0 if kind == b'BR' else 5, width, 8))
+        if None in tail: return 1, at
+        rows[kind].append(head + tail)
+        at += 2 + width
+    return Chart(rows[b'ST'], rows[b'SG'], rows[b'BG'], rows[b'SU'], [b[0] for b in rows[b'BR']], [b[1] for b in rows[b'BR']])
+def marks(data):
+    """what the program marks must print for a file, as bytes"""
+    c = read(data)
+    if not isinstance(c, Chart): return b'refused %d at %d\n' % c
+    if nine(c): return b'refused 9 at 0\n'
+    if len(zones(c)) > 256: return b'refused 11 at 0\n'
+    rows = [f'{side(m[0])} {m[1]} {m[2]} {hx(m[3])}' for m in n3(c)]
+    return '\n'.join(['side order bar price'] + rows + ['']).encode()

@@ -3,6 +3,7 @@ use chart::Class;
 use chart::FirstMark;
 use chart::Ground;
 use chart::Label;
+use chart::NMark;
 use chart::ThirdMark;
 use chart::Zone;
 ghost use Prim.Native.Nat.{_≤_};
@@ -119,13 +120,18 @@ fn print_ground(ground: Ground) {
     io::write_all(1, b"\n");
 }
 
-// A row of the section THIRD.
-fn print_third(m: ThirdMark) {
-    if m.is_buy {
+// The side of a mark, with a space behind it.
+fn print_side(buy: bool) {
+    if buy {
         io::write_all(1, b"buy ");
     } else {
         io::write_all(1, b"sell ");
     }
+}
+
+// A row of the section THIRD.
+fn print_third(m: ThirdMark) {
+    print_side(m.is_buy);
     print_number(m.bar_index);
     print_price(m.price);
     let ground = m.ground;
@@ -135,6 +141,22 @@ fn print_third(m: ThirdMark) {
 pub fn print_thirds(rows: [ThirdMark; 512], count: u16) {
     for i in 0..shown(count, 512) {
         print_third(rows[i]);
+    }
+}
+
+// A row of the section THREEN.
+fn print_threen(m: NMark) {
+    print_side(m.is_buy);
+    io::print_decimal(1, m.order as u64);
+    io::write_all(1, b" ");
+    print_number(m.bar_index);
+    io::write_all(1, &hex_of(m.price));
+    io::write_all(1, b"\n");
+}
+
+pub fn print_threens(rows: [NMark; 512], count: u16) {
+    for i in 0..shown(count, 512) {
+        print_threen(rows[i]);
     }
 }
 

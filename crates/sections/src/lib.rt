@@ -20,6 +20,14 @@ fn print_thirds(chart: Chart, highs: &[f64], lows: &[f64]) {
     printing::print_thirds(rows, found.count);
 }
 
+// 3+N marks, over the bars of the file.
+fn print_threens(chart: Chart, highs: &[f64], lows: &[f64]) {
+    let found = three_n::bigseg_3n_marks_all_zhongshu(chart, highs, lows);
+    printing::print_head(b"THREEN", found.number, found.count);
+    let rows = found.rows;
+    printing::print_threens(rows, found.count);
+}
+
 fn print_labels(chart: Chart) {
     let found = labels::detect_bigseg_trend_zhongshus(chart);
     printing::print_head(b"LABELS", found.number, found.count);
@@ -77,6 +85,7 @@ fn print_first_sells(chart: Chart, case3: u8) {
 fn print_sections(chart: Chart, highs: &[f64], lows: &[f64]) {
     print_zones(chart);
     print_thirds(chart, highs, lows);
+    print_threens(chart, highs, lows);
     print_labels(chart);
     print_segment_classes(chart, 0);
     print_segment_classes(chart, 1);
