@@ -3,7 +3,7 @@
 use mathlib.Core.Path.{_≡_}
 use mathlib.Core.List.{List, map}
 use mathlib.Core.Option.{Option, none, some}
-use Prim.Native.Nat.{ℕ, suc, _≤_}
+use Prim.Native.Nat.{ℕ, zero, suc, _-_, _%_, _≤_, _<_}
 use lib.ListN.{length, take, getD, getElem?}
 use lib.Ieee.{Float, nan}
 use Rattle.chart.specs.declared.Stroke.{Stroke}
@@ -27,6 +27,21 @@ startOf Missing = 0
 abbrev pub endOf : Range → ℕ
 endOf (Found r) = suc (r .«end_bar»)
 endOf Missing = 0
+
+-- the range that stands in columns: none where it has no start bar. Bars are below 65,536
+abbrev pub rangeAt : ℕ → ℕ → Float → Float → Range
+rangeAt zero end low high = Missing
+rangeAt (suc start) end low high =
+    Found (record { low = low; high = high; «start_bar» = start % 0x1_0000; «end_bar» = (end - 1) % 0x1_0000 })
+
+-- the first m places of four columns have these ranges
+abbrev pub Spans : ℕ → List ℕ → List ℕ → List Float → List Float → List Range → Type 0
+Spans m starts ends lows highs rs =
+    (k : ℕ) → k < m → rangeAt (getD starts k 0) (getD ends k 0) (getD lows k nan) (getD highs k nan) ≡ getD rs k Missing
+
+-- the first n numbers of a column never fall
+abbrev pub Ascending : ℕ → List ℕ → Type 0
+Ascending n column = (i j : ℕ) → i ≤ j → j < n → getD column i 0 ≤ getD column j 0
 
 -- the end bar of a stroke that is there
 abbrev pub barOf : Option Stroke → ℕ

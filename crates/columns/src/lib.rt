@@ -7,6 +7,7 @@ use chart::Stroke;
 use chart::Triple;
 use chart::Zone;
 ghost use mathlib.Core.Path.{_≡_};
+ghost use mathlib.Core.Bool.{true};
 ghost use mathlib.Core.List.{map};
 ghost use Prim.Native.Nat.{_≤_};
 ghost use lib.ListN.{length, take};
@@ -16,7 +17,7 @@ ghost use Rattle.chart.specs.Table.{rangesIn};
 ghost use Rattle.rules.specs.Records.{Levels, levelsOf};
 ghost use Rattle.rules.specs.Ranges.{rangeOf, lastStroke};
 ghost use Rattle.rules.specs.Marks.{superiorEnd};
-ghost use Rattle.columns.specs.Columns.{Column, startOf, endOf, barOf, BigColumns, ZoneColumns};
+ghost use Rattle.columns.specs.Columns.{Column, Ascending, startOf, endOf, barOf, BigColumns, ZoneColumns};
 ghost use Rattle.columns.specs.Read.{lastFrom};
 
 // The directions of the first n triples.
@@ -31,6 +32,23 @@ pub fn ways_of(triples: [Triple; 256], n: usize) -> [u8; 256]
         k += 1;
     }
     ways
+}
+
+// Whether the first n numbers of a column never fall. Each is looked at, with no test that ends the loop, so that many can be taken at once.
+pub fn rising(column: &[u16], n: usize) -> bool
+    requires { ⌜ n ≤ length (now column) ⌝ }
+    ensures { λ r. ⌜ (r ≡ true → Ascending n (now (column .entry))) ⌝ }
+{
+    let mut good = true;
+    let mut last = 0u16;
+    let mut i = 0usize;
+    while i < n {
+        let x = column[i];
+        good = good & (last <= x);
+        last = x;
+        i += 1;
+    }
+    good
 }
 
 // ---- ranges
