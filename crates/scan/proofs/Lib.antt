@@ -2,3 +2,4 @@ pub mod Columns
 pub mod Steps
 pub mod Zones
 pub mod Quotes
+pub mod Nearest

@@ -1,22 +1,20 @@
--- A call over lent slices, whose refusals are 21, 8, 1 and then what the chart refuses, and the zone call's answer within it. Assumes nothing.
+-- A call over lent slices, whose refusals are 21, 8, 1 and then what the chart refuses. Assumes nothing.
 use Prim.Native.Nat.{ℕ, _≤_}
 use native.Mathlib.Omega.{arith}
-use mathlib.Core.Path.{_≡_, refl, sym, ap, _∙_}
+use mathlib.Core.Path.{_≡_, refl, sym, _∙_}
 use mathlib.Core.Bool.{Bool, true, false, not, true≢false}
 use mathlib.Core.List.{List}
-use lib.ListN.{length, take}
+use lib.ListN.{length}
 use lib.Dec.{eqb, ltb}
 use lib.Ieee.{Float}
 use borrow.Author.Tests.{eqb-true, ltb-false}
-use Rattle.chart.specs.declared.Zone.{Zone}
 use Rattle.chart.specs.declared.Chart.{Chart}
-use Rattle.rules.specs.Answer.{Answer, refused, given, answered, rowsAnswer}
+use Rattle.rules.specs.Answer.{Answer, refused, given, answered}
 use Rattle.rules.specs.Records.{Levels, levelsOf, Quotes}
-use Rattle.rules.specs.Zones.{overlapZones}
-use Rattle.rules.specs.Refusals.{refuse, badChart, unequal, badSlices, badQuotes, zonesRefusal}
-use Rattle.rules.specs.Calls.{onChart, zonesCall}
+use Rattle.rules.specs.Refusals.{refuse, badChart, unequal, badSlices, badQuotes}
+use Rattle.rules.specs.Calls.{onChart}
 use Rattle.laws.proofs.Tests.{or-l, or-r, refuse-no}
-use Rattle.laws.proofs.Answers.{on-bad, on-good, answered-refused, Rows, rows-given, rows-refused}
+use Rattle.laws.proofs.Answers.{on-bad, on-good, answered-refused}
 use Rattle.scan.specs.Scan.{quotesRefusal}
 
 -- 8 and 1 come before what follows
@@ -80,20 +78,3 @@ module _
         pub call-given : rest l ≡ 0 → given (marks l) ≡ call
         unfolding answered
         call-given e = rw (← call-good, quotes-pass q (rest l) f, e)
-
--- ---- the zone call's answer on a chart that is not refused with 21
-
-module _
-    (c : Chart) (good : badChart c ≡ false) (n count : ℕ) (rows : List Zone) (e : rowsAnswer n count rows ≡ zonesCall c)
-  where
-    found-good : rowsAnswer n count rows ≡ answered (zonesRefusal (levelsOf c)) (overlapZones (levelsOf c))
-    unfolding zonesCall
-    found-good = e ∙ on-good c _ good
-
-    pub zones-refused : (n ≡ 0 → ⊥) → zonesRefusal (levelsOf c) ≡ n
-    zones-refused h = rows-refused count rows (zonesRefusal (levelsOf c)) (overlapZones (levelsOf c)) n h found-good
-
-    pub zones-found : n ≡ 0 → Rows count rows (zonesRefusal (levelsOf c)) (overlapZones (levelsOf c))
-    zones-found h =
-        rows-given count rows (zonesRefusal (levelsOf c)) (overlapZones (levelsOf c))
-        (ap (λ (x : ℕ). rowsAnswer x count rows) (sym h) ∙ found-good)

@@ -2,18 +2,17 @@
 // lent as columns; a bar in a column is counted from 1, and 0 stands for none.
 use chart::Triple;
 ghost use mathlib.Core.Path.{_≡_};
-ghost use mathlib.Core.Bool.{Bool, not, _&&_, _||_, Bool·beq};
+ghost use mathlib.Core.Bool.{Bool, true, not, _&&_, _||_, Bool·beq};
 ghost use mathlib.Core.List.{List, map};
 ghost use Prim.Native.Nat.{ℕ, suc, _+_, _-_, _≤_, _<_, min};
 ghost use lib.ListN.{length, take, drop, getD};
 ghost use lib.Dec.{eqb, ltb};
-ghost use lib.Ieee.{Float};
 ghost use Rattle.chart.specs.declared.Triple.{Triple};
 ghost use Rattle.chart.specs.declared.Zone.{Zone};
-ghost use Rattle.rules.specs.Records.{isUp, Levels, Quotes};
+ghost use Rattle.rules.specs.Records.{isUp, Levels};
 ghost use Rattle.rules.specs.Ranges.{rangeOf, lastStroke};
 ghost use Rattle.rules.specs.Marks.{superiorOf, leaving, reachesZone, superiorEnd, pairEnds, quote};
-ghost use Rattle.columns.specs.Columns.{Column, startOf, endOf, barOf};
+ghost use Rattle.columns.specs.Columns.{Column, startOf, endOf, barOf, Ascending};
 ghost use Rattle.scan.specs.Scan.{reached, overAt, offered, reversalIn, pairsBy, Later, ZoneScan, Scanning, NextEnd, quoteOf, quotesRefusal};
 
 // ---- where it starts
@@ -86,6 +85,51 @@ fn next_zone(owners: &[u16], starts: &[u16], n: usize, h: u16, e: u16) -> u32
     } else {
         0
     }
+}
+
+// Whether a zone is of another superior than h and starts behind bar e.
+fn is_next(h: u16, e: u16, owner: u16, start: u16) -> bool
+    ensures { λ r. ⌜ (r ≡ (not (eqb owner h) && ltb e start)) × (start < 0x1_0000) ⌝ }
+{
+    owner != h && e < start
+}
+
+// The start bar, counted from 1, of the first zone from place `from` on that is of another superior than h and starts behind bar e; 0 where
+// there is none.
+fn zone_behind(owners: &[u16], starts: &[u16], n: usize, from: usize, h: u16, e: u16) -> u32
+    requires { ⌜ (n ≤ length (now owners)) × (n ≤ length (now starts)) × Ascending n (now starts) ⌝ }
+    ensures { λ r. ⌜ ((zs : List Zone) (z : Zone) → Column (λ (y : Zone). y .«sup_idx») n (now (owners .entry)) zs → Column (λ (y : Zone). y .«start_bar») n (now (starts .entry)) zs → z .«sup_idx» ≡ h → z .«end_bar» ≡ e → (bar : ℕ) → reached r bar ≡ reachesZone (drop from zs) z bar) ⌝ }
+{
+    let mut i = from;
+    while i < n {
+        if is_next(h, e, owners[i], starts[i]) {
+            return starts[i] as u32 + 1;
+        }
+        i += 1;
+    }
+    0
+}
+
+// As next_zone, of the zone at place `at`. Where no zone starts before the one before it, the first that counts behind that place is the
+// nearest.
+fn zone_limit(
+    owners: &[u16],
+    starts: &[u16],
+    n: usize,
+    sorted: bool,
+    at: usize,
+    h: u16,
+    e: u16,
+) -> u32
+    requires { ⌜ (at < n) × (n ≤ length (now owners)) × (n ≤ length (now starts)) × (sorted ≡ true → Ascending n (now starts)) ⌝ }
+    ensures { λ r. ⌜ ((zs : List Zone) (z : Zone) → Column (λ (y : Zone). y .«sup_idx») n (now (owners .entry)) zs → Column (λ (y : Zone). y .«start_bar») n (now (starts .entry)) zs → z .«sup_idx» ≡ h → z .«end_bar» ≡ e → (bar : ℕ) → reached r bar ≡ reachesZone zs z bar) ⌝ }
+{
+    if sorted {
+        if starts[at] <= e {
+            return zone_behind(owners, starts, n, at, h, e);
+        }
+    }
+    next_zone(owners, starts, n, h, e)
 }
 
 // Whether a superior is not of direction d and ends behind `after`.
@@ -182,8 +226,8 @@ struct Bounds {
     limit: u32,
 }
 
-// The scan of a zone that ends at bar e, whose superior is s, at place `owner`. Lent are the start bars of m bigs, the directions and end bars of h superiors, and the
-// superiors and start bars of n zones.
+// The scan of the zone at place `at`, which ends at bar e and whose superior is s, at place `owner`. Lent are the start bars of m bigs, the
+// directions and end bars of h superiors, and the superiors and start bars of n zones; `sorted` where those start bars never fall.
 fn bounds_of(
     owner: u16,
     e: u16,
@@ -196,12 +240,15 @@ fn bounds_of(
     owners: &[u16],
     zone_starts: &[u16],
     n: usize,
+    sorted: bool,
+    at: usize,
 ) -> Bounds
     requires { ⌜ (m ≤ 256) × (m ≤ length (now starts)) × (h ≤ length (now ways)) × (h ≤ length (now ends)) × (n ≤ length (now owners)) × (n ≤ length (now «zone_starts»)) ⌝ }
+    requires { ⌜ (at < n) × (sorted ≡ true → Ascending n (now «zone_starts»)) ⌝ }
     ensures { λ r. ⌜ ((c : Levels) (zs : List Zone) (z : Zone) → z .«sup_idx» ≡ owner → z .«end_bar» ≡ e → superiorOf c z ≡ s → Column startOf m (now (starts .entry)) (map (rangeOf c) (c .bigs)) → Column (λ (t : Triple). t .direction) h (now (ways .entry)) (c .superiors) → Column (λ (t : Triple). barOf (superiorEnd c t)) h (now (ends .entry)) (c .superiors) → Column (λ (y : Zone). y .«sup_idx») n (now (owners .entry)) zs → Column (λ (y : Zone). y .«start_bar») n (now («zone_starts» .entry)) zs → ZoneScan c zs z (s .direction) (r .from) (r .limit)) ⌝ }
 {
     let from = start_of(starts, m, s.first as usize, s.last as usize, e as u32);
-    let near = next_zone(owners, zone_starts, n, owner, e);
+    let near = zone_limit(owners, zone_starts, n, sorted, at, owner, e);
     let turn = reversal(ways, ends, h, owner as usize + 1, s.direction, e);
     Bounds {
         from: from as u16,
@@ -231,6 +278,7 @@ pub fn zone_scans(
     requires { ⌜ (length (now sides) ≡ 256) × (length (now froms) ≡ 256) × (length (now limits) ≡ 256) ⌝ }
     ensures { λ _. ⌜ ((c : Levels) (zs : List Zone) → take h superiors ≡ c .superiors → Column startOf m (now (starts .entry)) (map (rangeOf c) (c .bigs)) → Column (λ (t : Triple). t .direction) h (now (ways .entry)) (c .superiors) → Column (λ (t : Triple). barOf (superiorEnd c t)) h (now (ends .entry)) (c .superiors) → Column (λ (y : Zone). y .«sup_idx») n (now (owners .entry)) zs → Column (λ (y : Zone). y .«start_bar») n (now («zone_starts» .entry)) zs → Column (λ (y : Zone). y .«end_bar») n (now («zone_ends» .entry)) zs → Scanning c zs n (now (sides .exit)) (now (froms .exit)) (now (limits .exit))) ⌝ }
 {
+    let sorted = columns::rising(zone_starts, n);
     let mut i = 0;
     while i < n {
         let owner = owners[i];
@@ -247,6 +295,8 @@ pub fn zone_scans(
             owners,
             zone_starts,
             n,
+            sorted,
+            i,
         );
         sides[i] = s.direction;
         froms[i] = b.from;

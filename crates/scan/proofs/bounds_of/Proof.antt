@@ -13,8 +13,8 @@ cast-start-of-2 c = search needs
 start-of-requires : tie.Need-start-of-requires
 start-of-requires c κs = search needs
 
-next-zone-requires : tie.Need-next-zone-requires
-next-zone-requires c κs = search needs
+zone-limit-requires : tie.Need-zone-limit-requires
+zone-limit-requires c κs = search needs
 
 add-reversal : tie.Need-add-reversal
 add-reversal c = search needs
@@ -22,8 +22,8 @@ add-reversal c = search needs
 reversal-requires : tie.Need-reversal-requires
 reversal-requires c κs = search needs
 
-cast-t18 : tie.Need-cast-t18
-cast-t18 c = search needs
+cast-t20 : tie.Need-cast-t20
+cast-t20 c = search needs
 
 limit-of-requires : tie.Need-limit-of-requires
 limit-of-requires c κs = search needs
@@ -34,7 +34,7 @@ returns c =
     let at-turn = c .before in
     let at-zone = at-turn .before in
     let at-start = at-zone .before in
-    zone-scan l zs z _ _ (at-zone .next-zone .result) (at-turn .reversal .result) (c .limit-of .result) here (rw end (at-start .start-of .ensures .1 l a)) (at-zone .next-zone .ensures zs z o t own end)
+    zone-scan l zs z _ _ (at-zone .zone-limit .result) (at-turn .reversal .result) (c .limit-of .result) here (rw end (at-start .start-of .ensures .1 l a)) (at-zone .zone-limit .ensures zs z o t own end)
     (rw (own, end) (at-turn .reversal .ensures l b d)) (c .limit-of .ensures)
 
 pub bounds-of-spec : {M : Type 1} → statement M
@@ -44,9 +44,9 @@ bounds-of-spec =
     cast-start-of
     cast-start-of-2
     start-of-requires
-    next-zone-requires
+    zone-limit-requires
     add-reversal
     reversal-requires
-    cast-t18
+    cast-t20
     limit-of-requires
     returns)

@@ -19,7 +19,7 @@ use Rattle.scan.proofs.zone_scans.Statement.{statement}
 use Rattle.scan.proofs.zone_scans.Tie as tie
 
 abbrev Inv-loop : tie.InvT-loop
-Inv-loop owners zone-starts zone-ends n h starts m ways ends sides₀ froms₀ limits₀ superiors i₀ sides froms limits i =
+Inv-loop owners zone-starts zone-ends n h starts m ways ends sides₀ froms₀ limits₀ superiors sorted i₀ sides froms limits i =
     (i ≤ n) × (length sides ≡ 256) × (length froms ≡ 256) × (length limits ≡ 256)
     × ((c : Levels) (zs : List Zone) → take h superiors ≡ c .superiors → Column startOf m starts (map (rangeOf c) (c .bigs))
     → Column (λ (t : Triple). t .direction) h ways (c .superiors) → Column (λ (t : Triple). barOf (superiorEnd c t)) h ends (c .superiors)
@@ -27,10 +27,10 @@ Inv-loop owners zone-starts zone-ends n h starts m ways ends sides₀ froms₀ l
     → Scanning c zs i sides froms limits)
 
 abbrev μ-loop : tie.MeasureT-loop
-μ-loop owners zone-starts zone-ends n h starts m ways ends sides₀ froms₀ limits₀ superiors i₀ sides froms limits i = n - i
+μ-loop owners zone-starts zone-ends n h starts m ways ends sides₀ froms₀ limits₀ superiors sorted i₀ sides froms limits i = n - i
 
 abbrev start : tie.At-loop Inv-loop μ-loop → tie.Start Inv-loop μ-loop
-start c = c .before .before .before .before .before .before .before .before .before .before
+start c = c .before .before .before .before .before .before .before .before .before .before .before
 
 few : (c : tie.In-loop Inv-loop μ-loop) → c .before .loop .i < 256
 few c = omega (arith, c .loop-test .taken, start (c .before) .pre .0)
@@ -39,9 +39,12 @@ few c = omega (arith, c .loop-test .taken, start (c .before) .pre .0)
 below : (c : tie.In-loop Inv-loop μ-loop) → getD (start (c .before) .args .owners .now) (c .before .loop .i) 0 < start (c .before) .args .h
 below c = start (c .before) .pre .1 .0 .3 (c .before .loop .i) (c .loop-test .taken)
 
+rising-requires : tie.Need-rising-requires Inv-loop μ-loop
+rising-requires c κs = search needs
+
 loop-holds : tie.Need-loop-holds Inv-loop μ-loop
 loop-holds c =
-    let start = c .before .before .before .before .before .before .before .before .before in
+    let start = c .before .before .before .before .before .before .before .before .before .before in
     (omega arith, start .pre .1 .1 .0, start .pre .1 .1 .1, start .pre .1 .1 .2, λ l zs e a b d o s t j y k. absurd (omega arith))
 
 mul-owner : tie.Need-mul-owner Inv-loop μ-loop
@@ -131,6 +134,7 @@ zone-scans-spec =
     (tie.spec
     Inv-loop
     μ-loop
+    rising-requires
     loop-holds
     mul-owner
     shared-slice-read-owner
