@@ -1,3 +1,4 @@
 pub mod Meetings
+pub mod Blocks
 pub mod Gatherings
 pub mod Rowings

@@ -2,10 +2,10 @@
 // numbered. Bigs, zones and superiors are lent as columns.
 use scan::Pair;
 ghost use mathlib.Core.Path.{_≡_};
-ghost use mathlib.Core.Bool.{Bool};
+ghost use mathlib.Core.Bool.{Bool, true};
 ghost use mathlib.Core.List.{List, [], map, foldl};
-ghost use Prim.Native.Nat.{ℕ, _≤_};
-ghost use lib.ListN.{length, take, drop};
+ghost use Prim.Native.Nat.{ℕ, _+_, _<_, _≤_};
+ghost use lib.ListN.{length, getD, take, drop};
 ghost use Rattle.chart.specs.declared.Triple.{Triple};
 ghost use Rattle.chart.specs.declared.ThirdMark.{ThirdMark};
 ghost use Rattle.chart.specs.declared.Zone.{Zone};
@@ -13,10 +13,10 @@ ghost use Rattle.rules.specs.Records.{Levels, Quotes};
 ghost use Rattle.rules.specs.Ranges.{rangeOf};
 ghost use Rattle.rules.specs.Marks.{pairEnds, insertBar, scannedBars, superiorsNumbered, push3N};
 ghost use Rattle.laws.proofs.Room.{endBars};
-ghost use Rattle.columns.specs.Columns.{Column, endOf};
+ghost use Rattle.columns.specs.Columns.{Column, Ascending, endOf};
 ghost use Rattle.scan.specs.Scan.{reached};
 ghost use Rattle.numbering.specs.Rows.{rowKey, marksIn, Room, Grown};
-ghost use Rattle.superior_marks.specs.Superiors.{Stood, Among};
+ghost use Rattle.superior_marks.specs.Superiors.{Stood, Inside, Parted, Owned, Among};
 
 // ---- bars
 
@@ -53,28 +53,30 @@ fn zone_bars(
     count
 }
 
-// The bars of all pairs that the scans of superior h's zones meet, among n zones: unique and sorted, in the first places of the lent bars.
+// The bars of all pairs that the scans of superior h's zones meet, unique and sorted, in the first places of the lent bars. All its zones
+// stand from place `from` on and before place `to`.
 fn superior_bars(
     h: u16,
     owners: &[u16],
     sides: &[u8],
     froms: &[u16],
     limits: &[u32],
-    n: usize,
+    from: usize,
+    to: usize,
     ways: &[u8],
     ends: &[u32],
     m: usize,
     bars: &mut [u32],
 ) -> usize
     requires { ⌜ (m ≤ length (now ways)) × (m ≤ length (now ends)) × (m ≤ 256) × (length (now bars) ≡ 257) ⌝ }
-    requires { ⌜ (n ≤ length (now owners)) × (n ≤ length (now sides)) × (n ≤ length (now froms)) × (n ≤ length (now limits)) ⌝ }
-    requires { ⌜ ((c : Levels) × (zs : List Zone) × Stood c zs m n (now ways) (now ends) (now owners) (now sides) (now froms) (now limits) × Among (endBars c) []) ⌝ }
+    requires { ⌜ (to ≤ length (now owners)) × (to ≤ length (now sides)) × (to ≤ length (now froms)) × (to ≤ length (now limits)) ⌝ }
+    requires { ⌜ ((n : ℕ) × (c : Levels) × (zs : List Zone) × Stood c zs m n (now ways) (now ends) (now owners) (now sides) (now froms) (now limits) × Among (endBars c) []) ⌝ }
     ensures { λ r. ⌜ (r ≤ 257) × (length (now (bars .exit)) ≡ 257) ⌝ }
-    ensures { λ r. ⌜ ((c : Levels) (zs : List Zone) → Stood c zs m n (now (ways .entry)) (now (ends .entry)) (now (owners .entry)) (now (sides .entry)) (now (froms .entry)) (now (limits .entry)) → take r (now (bars .exit)) ≡ scannedBars c zs h) ⌝ }
+    ensures { λ r. ⌜ ((n : ℕ) (c : Levels) (zs : List Zone) → Inside (now (owners .entry)) n h from to → Stood c zs m n (now (ways .entry)) (now (ends .entry)) (now (owners .entry)) (now (sides .entry)) (now (froms .entry)) (now (limits .entry)) → take r (now (bars .exit)) ≡ scannedBars c zs h) ⌝ }
 {
     let mut k = 0usize;
-    let mut i = 0usize;
-    while i < n {
+    let mut i = from;
+    while i < to {
         let z = i;
         i += 1;
         if owners[z] != h {
@@ -83,6 +85,51 @@ fn superior_bars(
         k = zone_bars(ways, ends, m, sides[z], limits[z], froms[z], bars, k);
     }
     k
+}
+
+// ---- blocks
+
+// The places that are looked at for a superior's zones, and the place where those of the next one begin. Zones mostly stand in the order of
+// their superiors, and then a superior looks at its own only.
+struct Block {
+    from: usize,
+    to: usize,
+    next: usize,
+}
+
+// The first place from `from` on, of n, whose zone is not of superior h.
+fn block_end(owners: &[u16], n: usize, from: usize, h: u16) -> usize
+    requires { ⌜ (n ≤ length (now owners)) × (from ≤ n) ⌝ }
+    ensures { λ r. ⌜ Owned (now (owners .entry)) n h from r × (r < n → getD (now (owners .entry)) r 0 ≡ h → ⊥) ⌝ }
+{
+    let mut i = from;
+    while i < n {
+        if owners[i] != h {
+            return i;
+        }
+        i += 1;
+    }
+    n
+}
+
+// The block of superior h. Where the zones stand in the order of their superiors it begins at place `at`, else it is all n places.
+fn block_of(owners: &[u16], n: usize, sorted: bool, at: usize, h: u16) -> Block
+    requires { ⌜ (n ≤ length (now owners)) × (at ≤ n) × (sorted ≡ true → Ascending n (now owners)) × (sorted ≡ true → Parted (now owners) n h at) ⌝ }
+    ensures { λ r. ⌜ (r .next ≤ n) × Inside (now (owners .entry)) n h (r .from) (r .to) × (sorted ≡ true → Parted (now (owners .entry)) n (h + 1) (r .next)) ⌝ }
+{
+    if !sorted {
+        return Block {
+            from: 0,
+            to: n,
+            next: at,
+        };
+    }
+    let end = block_end(owners, n, at, h);
+    Block {
+        from: at,
+        to: end,
+        next: end,
+    }
 }
 
 // ---- rows
@@ -110,17 +157,23 @@ pub fn superior_rows(
     ensures { λ r. ⌜ ((c : Levels) (zs : List Zone) → Stood c zs m n (now (ways .entry)) (now (ends .entry)) (now (owners .entry)) (now (sides .entry)) (now (froms .entry)) (now (limits .entry)) → Room (endBars c) (now (keys .entry)) zeros → Room (endBars c) (now (keys .exit)) r) ⌝ }
     ensures { λ r. ⌜ Grown zeros (now (keys .entry)) (now (orders .entry)) r (now (keys .exit)) (now (orders .exit)) ⌝ }
 {
+    let sorted = columns::rising(owners, n);
     let mut bars = [0u32; 257];
     let mut count = zeros;
+    let mut at = 0usize;
     let mut i = 0usize;
     while i < h {
+        let own = i as u16;
+        let block = block_of(owners, n, sorted, at, own);
+        at = block.next;
         let k = superior_bars(
-            i as u16,
+            own,
             owners,
             sides,
             froms,
             limits,
-            n,
+            block.from,
+            block.to,
             ways,
             ends,
             m,

@@ -6,13 +6,13 @@ use Rattle.superior_marks.proofs.superior_bars.Statement.{statement}
 use Rattle.superior_marks.proofs.superior_bars.Tie as tie
 
 abbrev Inv-loop : tie.InvT-loop
-Inv-loop h owners sides froms limits n ways ends m bars₀ k₀ i₀ bars k i = Gathering h owners sides froms limits n ways ends m bars k i
+Inv-loop h owners sides froms limits from to ways ends m bars₀ k₀ i₀ bars k i = Gathering h owners sides froms limits from to ways ends m bars k i
 
 abbrev μ-loop : tie.MeasureT-loop
-μ-loop h owners sides froms limits n ways ends m bars₀ k₀ i₀ bars k i = n - i
+μ-loop h owners sides froms limits from to ways ends m bars₀ k₀ i₀ bars k i = to - i
 
 loop-holds : tie.Need-loop-holds Inv-loop μ-loop
-loop-holds c = gathering-first _ _ _ _ _ _ _ _ _ _ (c .before .before .before .before .before .before .before .pre .0 .3)
+loop-holds c = gathering-first _ _ _ _ _ _ _ _ _ _ _ (c .before .before .before .before .before .before .before .pre .0 .3)
 
 add-i : tie.Need-add-i Inv-loop μ-loop
 add-i c = search needs
@@ -30,7 +30,7 @@ loop-again : tie.Need-loop-again Inv-loop μ-loop
 loop-again c =
     let in-loop = c .before .before in
     let head = in-loop .before in
-    gathering-pass _ _ _ _ _ _ _ _ _ _ _ (head .loop .i) (head .loop .inv) (in-loop .loop-test .taken) (c .if1 .taken)
+    gathering-pass _ _ _ _ _ _ _ _ _ _ _ _ (head .loop .i) (head .loop .inv) (c .if1 .taken)
 
 shared-slice-read-zone-bars : tie.Need-shared-slice-read-zone-bars Inv-loop μ-loop
 shared-slice-read-zone-bars c = search needs
@@ -54,7 +54,7 @@ zone-bars-requires c κs =
     let chart = start .pre .1 .1 in
     let inv = head .loop .inv in (
       (start .pre .0 .0, start .pre .0 .1, start .pre .0 .2, inv .wide, inv .low),
-      (chart .0, chart .2 .by-way, chart .2 .by-end, inv .among (chart .0) (chart .1) (chart .2) (chart .3)),
+      (chart .1, chart .3 .by-way, chart .3 .by-end, inv .among (chart .0) (chart .1) (chart .2) (chart .3) (chart .4)),
     )
 
 loop-less-2 : tie.Need-loop-less-2 Inv-loop μ-loop
@@ -66,7 +66,7 @@ loop-again-2 c =
     let own = c .before .before .before .before .before .before .before in
     let in-loop = own .before .before in
     let head = in-loop .before in
-    gathering-next _ _ _ _ _ _ _ _ _ _ _ (head .loop .i) (head .loop .inv) (in-loop .loop-test .taken) (own .if1 .left) _ _ (met .ensures .0 .0) (met .ensures .0 .1) (met .ensures .1)
+    gathering-next _ _ _ _ _ _ _ _ _ _ _ _ (head .loop .i) (head .loop .inv) (in-loop .loop-test .taken) (own .if1 .left) _ _ (met .ensures .0 .0) (met .ensures .0 .1) (met .ensures .1)
 
 same-length : tie.Need-same-length Inv-loop μ-loop
 same-length c = search needs
@@ -75,7 +75,7 @@ returns : tie.Need-returns Inv-loop μ-loop
 returns c =
     let head = c .before in
     let inv = head .loop .inv in
-    ((inv .low, inv .wide), gathering-all _ _ _ _ _ _ _ _ _ _ _ (head .loop .i) inv (c .loop-test .left))
+    ((inv .low, inv .wide), gathering-all _ _ _ _ _ _ _ _ _ _ _ _ (head .loop .i) inv (c .loop-test .left))
 
 pub superior-bars-spec : {M : Type 1} → statement M
 superior-bars-spec =
