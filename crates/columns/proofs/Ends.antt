@@ -1,4 +1,4 @@
--- Laws of what stands in columns: the bars of a range, the end bar and end price of a big, the end bar of a superior. Assumes nothing.
+-- Laws of what stands in columns: the end bar and end price of a big, the end bar of a superior. Assumes nothing.
 use mathlib.Core.Path.{_≡_, refl, _∙_}
 use mathlib.Core.Bool.{Bool, true, false, _&&_}
 use mathlib.Core.List.{List, [], map}
@@ -14,9 +14,6 @@ use borrow.Author.Tests.{lt-ltb, le-ltb, le-leb, lt-leb, eqb-true, eqb-false}
 use Rattle.chart.specs.declared.Stroke.{Stroke}
 use Rattle.chart.specs.declared.Triple.{Triple}
 use Rattle.chart.specs.declared.Chart.{Chart}
-use Rattle.chart.specs.declared.Span.{Span}
-use Rattle.chart.specs.declared.Range.{Range}
-use Rattle.chart.specs.declared.Range.the-variants.{Found}
 use Rattle.rules.specs.Records.{Levels, levelsOf}
 use Rattle.rules.specs.Ranges.{lastStroke, endPoint}
 use Rattle.rules.specs.Marks.{superiorEnd}
@@ -25,14 +22,9 @@ use Rattle.laws.proofs.Arrays.{at-out}
 use Rattle.laws.proofs.Lists.{map-at, at-map, at-take, at-taken, at-getD, lt-at}
 use Rattle.levels.specs.Read.{heldIf}
 use Rattle.levels.proofs.Read.{no-triple, no-stroke, reached}
-use Rattle.columns.specs.Columns.{Column, startOf, endOf, barOf, Prices}
+use Rattle.columns.specs.Columns.{Column, barOf, Prices}
 use Rattle.columns.specs.Read.{lastFrom}
 use Rattle.columns.proofs.Fill.{column-length, column-at}
-
--- ---- a range that is there
-
-pub found-bars : (range : Range) (s : Span) → range ≡ Found s → (s .«start_bar» + 1 ≡ startOf range) × (s .«end_bar» + 1 ≡ endOf range)
-found-bars range s e = (rw (e, add-one), rw (e, add-one))
 
 -- ---- the last stroke of a big, read at safe indices
 

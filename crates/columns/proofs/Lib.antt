@@ -1,3 +1,4 @@
 pub mod Fill
+pub mod Spans
 pub mod Ends
 pub mod Ascend

@@ -5,19 +5,17 @@ use chart::Range;
 use chart::Slot;
 use chart::Stroke;
 use chart::Triple;
-use chart::Zone;
 ghost use mathlib.Core.Path.{_≡_};
 ghost use mathlib.Core.Bool.{true};
 ghost use mathlib.Core.List.{map};
 ghost use Prim.Native.Nat.{_≤_};
 ghost use lib.ListN.{length, take};
 ghost use Rattle.chart.specs.declared.Triple.{Triple};
-ghost use Rattle.chart.specs.declared.Zone.{Zone};
 ghost use Rattle.chart.specs.Table.{rangesIn};
 ghost use Rattle.rules.specs.Records.{Levels, levelsOf};
 ghost use Rattle.rules.specs.Ranges.{rangeOf, lastStroke};
 ghost use Rattle.rules.specs.Marks.{superiorEnd};
-ghost use Rattle.columns.specs.Columns.{Column, Ascending, startOf, endOf, barOf, BigColumns, ZoneColumns};
+ghost use Rattle.columns.specs.Columns.{Column, Ascending, startOf, endOf, rangeAt, Spans, barOf, BigColumns};
 ghost use Rattle.columns.specs.Read.{lastFrom};
 
 // The directions of the first n triples.
@@ -59,21 +57,30 @@ pub struct Bars {
     pub ends: [u32; 256],
 }
 
-// A range's bars.
+// A range's bars and prices. A missing one's prices are 0.
 struct Bar {
     start: u32,
     end: u32,
+    low: f64,
+    high: f64,
 }
 
 fn bar_of(range: Range) -> Bar
-    ensures { λ r. ⌜ (r .start ≡ startOf range) × (r .end ≡ endOf range) ⌝ }
+    ensures { λ r. ⌜ (r .start ≡ startOf range) × (r .end ≡ endOf range) × (rangeAt (r .start) (r .end) (r .low) (r .high) ≡ range) ⌝ }
 {
     let Range::Found(s) = range else {
-        return Bar { start: 0, end: 0 };
+        return Bar {
+            start: 0,
+            end: 0,
+            low: 0.0,
+            high: 0.0,
+        };
     };
     Bar {
         start: s.start_bar as u32 + 1,
         end: s.end_bar as u32 + 1,
+        low: s.low,
+        high: s.high,
     }
 }
 
@@ -115,25 +122,24 @@ fn end_bar_from(b: Triple, z: Triple, e: Stroke, segments: u16, strokes: u16) ->
     e.end_bar as u32 + 1
 }
 
-// The ranges of all bigs, and their columns: the directions, the bars of the ranges, the end points. One pass over the chart, since each
-// call on a chart copies it.
+// The columns of all bigs: the directions, the bars and prices of the ranges, the end points. One pass over the chart, since each call
+// on a chart copies it.
 pub fn bigs_of(
     chart: Chart,
     ways: &mut [u8],
     starts: &mut [u32],
     ends: &mut [u32],
+    lows: &mut [f64],
+    highs: &mut [f64],
     points: &mut [u32],
     prices: &mut [f64],
-) -> [Slot; 256]
+)
     requires { ⌜ (chart .«stroke_count» ≤ 512) × (chart .«segment_count» ≤ 256) × (chart .«big_count» ≤ 256) ⌝ }
-    requires { ⌜ (length (now ways) ≡ 256) × (length (now starts) ≡ 256) × (length (now ends) ≡ 256) × (length (now points) ≡ 256) × (length (now prices) ≡ 256) ⌝ }
-    ensures { λ r. ⌜ rangesIn (chart .«big_count») r ≡ map (rangeOf (levelsOf chart)) (levelsOf chart .bigs) ⌝ }
-    ensures { λ r. ⌜ BigColumns (levelsOf chart) (chart .«big_count») (now (ways .exit)) (now (starts .exit)) (now (ends .exit)) (now (points .exit)) (now (prices .exit)) ⌝ }
+    requires { ⌜ (length (now ways) ≡ 256) × (length (now starts) ≡ 256) × (length (now ends) ≡ 256) × (length (now lows) ≡ 256) × (length (now highs) ≡ 256) × (length (now points) ≡ 256) × (length (now prices) ≡ 256) ⌝ }
+    ensures { λ _. ⌜ BigColumns (levelsOf chart) (chart .«big_count») (now (ways .exit)) (now (starts .exit)) (now (ends .exit)) (now (points .exit)) (now (prices .exit)) ⌝ }
+    ensures { λ _. ⌜ Spans (chart .«big_count») (now (starts .exit)) (now (ends .exit)) (now (lows .exit)) (now (highs .exit)) (map (rangeOf (levelsOf chart)) (levelsOf chart .bigs)) ⌝ }
 {
     let n = chart.big_count as usize;
-    let none = Range::Missing;
-    let slot = Slot { range: none };
-    let mut slots = [slot; 256];
     let mut k = 0usize;
     while k < n {
         let b = chart.bigs[k];
@@ -150,12 +156,12 @@ pub fn bigs_of(
         ways[k] = b.direction;
         starts[k] = bar.start;
         ends[k] = bar.end;
+        lows[k] = bar.low;
+        highs[k] = bar.high;
         points[k] = end_bar_from(b, z, e, chart.segment_count, chart.stroke_count);
         prices[k] = e.end_price;
-        slots[k] = Slot { range };
         k += 1;
     }
-    slots
 }
 
 // The end bar of a superior, by the end bars of m bigs.
@@ -186,32 +192,4 @@ pub fn superior_ends(superiors: [Triple; 256], n: usize, points: &[u32], m: usiz
         k += 1;
     }
     ends
-}
-
-// ---- zones
-
-// The columns of the first n zones: their superiors, start and end bars, and edges.
-pub fn zone_columns(
-    zones: [Zone; 256],
-    n: usize,
-    owners: &mut [u16],
-    starts: &mut [u16],
-    ends: &mut [u16],
-    lows: &mut [f64],
-    highs: &mut [f64],
-)
-    requires { ⌜ n ≤ 256 ⌝ }
-    requires { ⌜ (length (now owners) ≡ 256) × (length (now starts) ≡ 256) × (length (now ends) ≡ 256) × (length (now lows) ≡ 256) × (length (now highs) ≡ 256) ⌝ }
-    ensures { λ _. ⌜ ZoneColumns n (now (owners .exit)) (now (starts .exit)) (now (ends .exit)) (now (lows .exit)) (now (highs .exit)) (take n zones) ⌝ }
-{
-    let mut k = 0;
-    while k < n {
-        let zone = zones[k];
-        owners[k] = zone.sup_idx;
-        starts[k] = zone.start_bar;
-        ends[k] = zone.end_bar;
-        lows[k] = zone.zd;
-        highs[k] = zone.zg;
-        k += 1;
-    }
 }

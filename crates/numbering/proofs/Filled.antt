@@ -1,9 +1,9 @@
--- Rows that are filled in, from third marks, and rows that are given out. Assumes nothing.
+-- Rows that are given out, and the row of a third mark. Assumes nothing.
 use Prim.Native.Nat.{ℕ, _+_, _<_, _≤_}
 use native.Mathlib.Omega.{arith}
 use native.Mathlib.Numerals.{add-one}
 use mathlib.Core.Path.{_≡_, sym, ap, _∙_}
-use mathlib.Core.List.{List, [], _∷_, _++_, map}
+use mathlib.Core.List.{List, [], _∷_, _++_}
 use lib.ListN.{length, getD, set, take}
 use lib.Seq.{length-take-le, take-suc}
 use lib.Ieee.{Float}
@@ -13,7 +13,6 @@ use Rattle.rules.specs.Answer.{rowsAnswer, given}
 use Rattle.rules.specs.Records.{Quotes}
 use Rattle.rules.specs.Marks.{priceAt, markAt, orderZero}
 use Rattle.laws.proofs.Answers.{given-rows}
-use Rattle.laws.proofs.Lists.{map-append}
 use Rattle.laws.proofs.Arrays.{one-more}
 use Rattle.numbering.specs.Rows.{barIn, sideIn, rowKey, markIn, marksIn}
 use Rattle.numbering.proofs.Gathered.{key-bar, key-side, marks-snoc}
@@ -49,30 +48,8 @@ module _ (q : Quotes) (keys orders : List ℕ) (rows : List NMark) (i : ℕ) (ar
       let same : i ≡ n = omega arith in
       given-rows rows n l ∙ ap given (rw same at are)
 
--- ---- third marks filled in
+-- ---- third marks
 
-zero-mark : (q : Quotes) (m : ThirdMark) → priceAt q (m .«is_buy») (m .«bar_index») ≡ m .price → markIn q (rowKey m) 0 ≡ orderZero m
+pub zero-mark : (q : Quotes) (m : ThirdMark) → priceAt q (m .«is_buy») (m .«bar_index») ≡ m .price → markIn q (rowKey m) 0 ≡ orderZero m
 unfolding markAt orderZero
 zero-mark q m e = rw (key-bar (m .«bar_index») (m .«is_buy»), key-side (m .«bar_index») (m .«is_buy»), e)
-
-module _ (rows : List ThirdMark) (i : ℕ) (d : ThirdMark) (h : i < length rows) (keys : List ℕ) (k : i < length keys) (key : ℕ) (is-key : key ≡ rowKey (getD rows i d)) where
-  pub keys-next : take i keys ≡ map rowKey (take i rows) → take (i + 1) (set keys i key) ≡ map rowKey (take (i + 1) rows)
-  keys-next e =
-      rw (one-more keys i key k, one-taken rows i d h, map-append rowKey (take i rows) (getD rows i d ∷ []), e, is-key)
-
-  pub zeros-next :
-      (q : Quotes) (orders : List ℕ) → i < length orders → priceAt q (getD rows i d .«is_buy») (getD rows i d .«bar_index») ≡ getD rows i d .price
-      → marksIn q (take i keys) (take i orders) ≡ map orderZero (take i rows)
-      → marksIn q (take (i + 1) (set keys i key)) (take (i + 1) (set orders i 0)) ≡ map orderZero (take (i + 1) rows)
-  zeros-next q orders o p e =
-      let sizes : length (take i keys) ≡ length (take i orders) = length-take-le i keys (omega arith) ∙ sym (length-take-le i orders (omega arith)) in
-      rw (
-        one-more keys i key k,
-        one-more orders i 0 o,
-        marks-snoc q key 0 (take i keys) (take i orders) sizes,
-        one-taken rows i d h,
-        map-append orderZero (take i rows) (getD rows i d ∷ []),
-        e,
-        is-key,
-        zero-mark q (getD rows i d) p,
-      )

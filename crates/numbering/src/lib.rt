@@ -1,7 +1,6 @@
 // Rows of 3+N marks while they are gathered. A mark's price is always the lent one of its side at its bar, so a row is kept as two numbers,
 // its key and its order, in the first places of two lent columns.
 use chart::NMark;
-use chart::ThirdMark;
 ghost use mathlib.Core.Path.{_≡_};
 ghost use mathlib.Core.Bool.{cond, not};
 ghost use mathlib.Core.List.{List, _∷_, _++_, map, foldl, List·Memᴰ};
@@ -12,7 +11,7 @@ ghost use Rattle.chart.specs.declared.ThirdMark.{ThirdMark};
 ghost use Rattle.rules.specs.Answer.{rowsAnswer, given};
 ghost use Rattle.rules.specs.Lists.{before, behind, keep};
 ghost use Rattle.rules.specs.Records.{Quotes};
-ghost use Rattle.rules.specs.Marks.{priceAt, numbered, orderZero, insertBar, zeroAt, push3N};
+ghost use Rattle.rules.specs.Marks.{priceAt, numbered, insertBar, zeroAt, push3N};
 ghost use Rattle.laws.proofs.Lists.{All};
 ghost use Rattle.laws.proofs.Keys.{Distinct};
 ghost use Rattle.laws.proofs.Earlier.{Rising};
@@ -265,7 +264,7 @@ pub fn number_bars(
     count
 }
 
-// ---- rows in and out
+// ---- rows given out
 
 // The answer of the 3+N call: a number, and where it is 0 the first `count` rows.
 pub struct NRows {
@@ -324,21 +323,4 @@ pub fn rows_of(keys: &[u32], orders: &[u32], n: usize, highs: &[f64], lows: &[f6
         count: n as u16,
         rows,
     }
-}
-
-// The first t third marks as rows of order 0.
-pub fn zero_rows(rows: [ThirdMark; 512], t: u16, keys: &mut [u32], orders: &mut [u32]) -> usize
-    requires { ⌜ (t ≤ 512) × (t ≤ length (now keys)) × (t ≤ length (now orders)) ⌝ }
-    ensures { λ r. ⌜ ((q : Quotes) → All (λ (m : ThirdMark). priceAt q (m .«is_buy») (m .«bar_index») ≡ m .price) (take t rows) → marksIn q (take t (now (keys .exit))) (take t (now (orders .exit))) ≡ map orderZero (take t rows)) ⌝ }
-    ensures { λ r. ⌜ (r ≡ t) × (take t (now (keys .exit)) ≡ map rowKey (take t rows)) × (length (now (keys .exit)) ≡ length (now (keys .entry))) × (length (now (orders .exit)) ≡ length (now (orders .entry))) ⌝ }
-{
-    let n = t as usize;
-    let mut i = 0usize;
-    while i < n {
-        let m = rows[i];
-        keys[i] = key_of(m.bar_index, m.is_buy);
-        orders[i] = 0;
-        i += 1;
-    }
-    n
 }

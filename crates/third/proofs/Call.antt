@@ -1,12 +1,12 @@
 -- The call on a chart: refused with 21, with 8 or 1, with 11, or given the marks of its zones and anchors. Assumes nothing.
-use Prim.Native.Nat.{ℕ}
+use Prim.Native.Nat.{ℕ, _≤_, _<_}
 use native.Mathlib.Omega.{arith}
 use mathlib.Core.Path.{_≡_, refl, sym, _∙_}
-use mathlib.Core.Bool.{Bool, true, false}
+use mathlib.Core.Bool.{true, false}
 use mathlib.Core.List.{List, [], _∷_, _++_, foldl}
-use lib.ListN.{take, length-take}
+use lib.ListN.{length, length-take}
 use lib.Dec.{leb}
-use borrow.Author.Tests.{lt-leb}
+use borrow.Author.Tests.{lt-leb, lt-ltb, le-ltb}
 use Rattle.chart.specs.declared.Zone.{Zone}
 use Rattle.chart.specs.declared.ThirdMark.{ThirdMark}
 use Rattle.chart.specs.declared.Chart.{Chart}
@@ -15,7 +15,7 @@ use Rattle.rules.specs.Lists.{any, each}
 use Rattle.rules.specs.Records.{Levels, levelsOf, Quotes}
 use Rattle.rules.specs.Zones.{overlapZones}
 use Rattle.rules.specs.Marks.{zoneThird, anchorsOf, anchorSide, anchorThird, addThird, thirdMarks}
-use Rattle.rules.specs.Refusals.{badChart, zonesRefusal, thirdRefusal}
+use Rattle.rules.specs.Refusals.{refuse, badChart, zonesRefusal, thirdRefusal}
 use Rattle.rules.specs.Calls.{onChart, thirdCall}
 use Rattle.laws.proofs.Lists.{all-map, false-any}
 use Rattle.laws.proofs.Owned.{zones-owned}
@@ -49,15 +49,21 @@ module _ (c : Chart) (q : Quotes) where
 -- ---- the marks
 
 -- the superiors that a chart's zones name are its own
-pub zones-own :
-    (c : Chart) (n : ℕ) (zones : List Zone) → take n zones ≡ overlapZones (levelsOf c)
-    → any (λ (z : Zone). leb (c .«superior_count») (z .«sup_idx»)) (take n zones) ≡ false
+pub zones-own : (c : Chart) → any (λ (z : Zone). leb (c .«superior_count») (z .«sup_idx»)) (overlapZones (levelsOf c)) ≡ false
 unfolding levelsOf
-zones-own c n zones e =
-    rw e
-    (false-any (λ (z : Zone). leb (c .«superior_count») (z .«sup_idx»))
+zones-own c =
+    false-any (λ (z : Zone). leb (c .«superior_count») (z .«sup_idx»))
     (all-map (λ z h. lt-leb (c .«superior_count») (z .«sup_idx») (omega (arith, h, length-take (c .«superior_count») (c .superiors))))
-    (zones-owned (levelsOf c))))
+    (zones-owned (levelsOf c)))
+
+-- 11 is given where there are more than 256 zones, and nowhere else
+pub zones-many : (l : Levels) → 256 < length (overlapZones l) → zonesRefusal l ≡ 11
+unfolding zonesRefusal refuse
+zones-many l h = rw (lt-ltb 256 (length (overlapZones l)) h)
+
+pub zones-few : (l : Levels) → length (overlapZones l) ≤ 256 → zonesRefusal l ≡ 0
+unfolding zonesRefusal refuse
+zones-few l h = rw (le-ltb 256 (length (overlapZones l)) h)
 
 pub marks-are :
     (c : Levels) (q : Quotes) (zs : List Zone) (found : List ThirdMark) (anchored : List ThirdMark) → zs ≡ overlapZones c

@@ -3,29 +3,27 @@ use chart::Chart;
 use chart::Ground;
 use chart::ThirdMark;
 use chart::Triple;
-use chart::Zone;
 use hits::Hit;
 use hits::Price;
 use scan::Pair;
 ghost use mathlib.Core.Path.{_≡_};
-ghost use mathlib.Core.Bool.{Bool, false, not, cond};
-ghost use mathlib.Core.List.{List, [], _∷_, map, foldl};
+ghost use mathlib.Core.Bool.{Bool, cond};
+ghost use mathlib.Core.List.{List, [], map, foldl};
 ghost use Prim.Native.Nat.{ℕ, suc, _+_, _≤_, _<_};
-ghost use lib.ListN.{length, take, drop};
-ghost use lib.Dec.{eqb, leb};
-ghost use lib.Ieee.{lt};
+ghost use lib.ListN.{length, take, drop, getD};
+ghost use lib.Dec.{eqb};
 ghost use Rattle.chart.specs.declared.Triple.{Triple};
 ghost use Rattle.chart.specs.declared.Stroke.{Stroke};
 ghost use Rattle.chart.specs.declared.Zone.{Zone};
 ghost use Rattle.chart.specs.declared.ThirdMark.{ThirdMark};
 ghost use Rattle.rules.specs.Answer.{rowsAnswer, given, refused};
-ghost use Rattle.rules.specs.Lists.{find, any, each, collect, isNone};
-ghost use Rattle.rules.specs.Records.{isUp, Levels, Quotes};
+ghost use Rattle.rules.specs.Lists.{find, any, each, collect};
+ghost use Rattle.rules.specs.Records.{isUp, Levels};
 ghost use Rattle.rules.specs.Ranges.{rangeOf, lastStroke};
 ghost use Rattle.rules.specs.Zones.{overlapZones};
-ghost use Rattle.rules.specs.Marks.{beats, pairEnds, zoneThird, anchorPrice, anchorBars, anchorThird, addThird, thirdMarks};
+ghost use Rattle.rules.specs.Marks.{beats, pairEnds, zoneThird, anchorBars, anchorThird, addThird, thirdMarks};
 ghost use Rattle.rules.specs.Calls.{thirdCall};
-ghost use Rattle.columns.specs.Columns.{Column, startOf, endOf, barOf, Prices, BigColumns};
+ghost use Rattle.columns.specs.Columns.{Column, startOf, endOf, barOf, Prices, BigColumns, ZoneColumns};
 ghost use Rattle.scan.specs.Scan.{reached, Scanning};
 ghost use Rattle.hits.specs.Found.{hitBar, Priced, Settled};
 ghost use Rattle.third.specs.Third.{keyOf, groundOf, markOf, Marked};
@@ -207,8 +205,8 @@ fn zone_marks(
 ) -> usize
     requires { ⌜ (n ≤ 256) × (m ≤ 256) × (m ≤ length (now ways)) × (m ≤ length (now ends)) × (length (now highs) ≤ 65536) × (length (now lows) ≤ 65536) ⌝ }
     requires { ⌜ (n ≤ length (now sides)) × (n ≤ length (now froms)) × (n ≤ length (now limits)) × (n ≤ length (now zds)) × (n ≤ length (now zgs)) ⌝ }
-    requires { ⌜ (length (now keys) ≡ 512) × (length (now bars) ≡ 512) × (length (now prices) ≡ 512) × (length (now grounds) ≡ 512) × (length (now zoned) ≡ 512) ⌝ }
-    ensures { λ r. ⌜ r ≤ n ⌝ }
+    requires { ⌜ (512 ≤ length (now keys)) × (length (now bars) ≡ 512) × (length (now prices) ≡ 512) × (length (now grounds) ≡ 512) × (length (now zoned) ≡ 512) ⌝ }
+    ensures { λ r. ⌜ (r ≤ n) × (length (now (keys .exit)) ≡ length (now (keys .entry))) × (length (now (bars .exit)) ≡ 512) × (length (now (prices .exit)) ≡ 512) × (length (now (grounds .exit)) ≡ 512) × (length (now (zoned .exit)) ≡ 512) ⌝ }
     ensures { λ r. ⌜ ((c : Levels) (zs : List Zone) → Column (λ (t : Triple). t .direction) m (now (ways .entry)) (c .bigs) → Column endOf m (now (ends .entry)) (map (rangeOf c) (c .bigs)) → Scanning c zs n (now (sides .entry)) (now (froms .entry)) (now (limits .entry)) → Column (λ (z : Zone). z .zd) n (now (zds .entry)) zs → Column (λ (z : Zone). z .zg) n (now (zgs .entry)) zs → Marked r (now (keys .exit)) (now (bars .exit)) (now (prices .exit)) (now (grounds .exit)) (now (zoned .exit)) (foldl addThird [] (each (zoneThird c (record { highs = now (highs .entry); lows = now (lows .entry) }) zs) zs))) ⌝ }
 {
     let mut count = 0usize;
@@ -291,7 +289,7 @@ fn anchor_marks(
     zoned: &mut [bool],
 ) -> usize
     requires { ⌜ (found ≤ 256) × (n ≤ m) × (m ≤ 256) × (m ≤ length (now ways)) × (m ≤ length (now ends)) × (m ≤ length (now points)) × (length (now highs) ≤ 65536) × (length (now lows) ≤ 65536) ⌝ }
-    requires { ⌜ (length (now keys) ≡ 512) × (length (now bars) ≡ 512) × (length (now prices) ≡ 512) × (length (now grounds) ≡ 512) × (length (now zoned) ≡ 512) ⌝ }
+    requires { ⌜ (512 ≤ length (now keys)) × (length (now bars) ≡ 512) × (length (now prices) ≡ 512) × (length (now grounds) ≡ 512) × (length (now zoned) ≡ 512) ⌝ }
     ensures { λ r. ⌜ r ≤ 512 ⌝ }
     ensures { λ r. ⌜ ((c : Levels) (l : List ThirdMark) → Column (λ (t : Triple). t .direction) m (now (ways .entry)) (c .bigs) → Column barOf m (now (ends .entry)) (map (lastStroke c) (c .bigs)) → Prices (now (points .entry)) (map (lastStroke c) (c .bigs)) → Marked found (now (keys .entry)) (now (bars .entry)) (now (prices .entry)) (now (grounds .entry)) (now (zoned .entry)) l → Marked r (now (keys .exit)) (now (bars .exit)) (now (prices .exit)) (now (grounds .exit)) (now (zoned .exit)) (foldl addThird l (each (anchorThird c (record { highs = now (highs .entry); lows = now (lows .entry) }) buy) (collect (lastStroke c) (take n (c .bigs)))))) ⌝ }
 {
@@ -353,10 +351,12 @@ fn refusal(number: u8) -> ThirdRows
     }
 }
 
-// The scans of the first n zones, whose superiors are among the first h, and their edges, into lent columns. Lent are the start bars and
-// the end points' bars of m bigs.
+// The scans of n zones, whose superiors are among the first h, into lent columns. Lent are, of the zones, the superiors, start bars and end
+// bars, and of m bigs the start bars and the end points' bars.
 pub fn scans_of(
-    zones: [Zone; 256],
+    owners: &[u16],
+    zone_starts: &[u16],
+    zone_ends: &[u16],
     n: usize,
     superiors: [Triple; 256],
     h: usize,
@@ -366,33 +366,18 @@ pub fn scans_of(
     sides: &mut [u8],
     froms: &mut [u16],
     limits: &mut [u32],
-    zds: &mut [f64],
-    zgs: &mut [f64],
 )
     requires { ⌜ (n ≤ 256) × (h ≤ 256) × (m ≤ 256) × (m ≤ length (now starts)) × (m ≤ length (now points)) ⌝ }
-    requires { ⌜ (length (now sides) ≡ 256) × (length (now froms) ≡ 256) × (length (now limits) ≡ 256) × (length (now zds) ≡ 256) × (length (now zgs) ≡ 256) ⌝ }
-    requires { ⌜ any (λ (z : Zone). leb h (z .«sup_idx»)) (take n zones) ≡ false ⌝ }
-    ensures { λ _. ⌜ Column (λ (z : Zone). z .zd) n (now (zds .exit)) (take n zones) × Column (λ (z : Zone). z .zg) n (now (zgs .exit)) (take n zones) ⌝ }
-    ensures { λ _. ⌜ ((c : Levels) → take h superiors ≡ c .superiors → Column startOf m (now (starts .entry)) (map (rangeOf c) (c .bigs)) → Column barOf m (now (points .entry)) (map (lastStroke c) (c .bigs)) → Scanning c (take n zones) n (now (sides .exit)) (now (froms .exit)) (now (limits .exit))) ⌝ }
+    requires { ⌜ (n ≤ length (now owners)) × (n ≤ length (now «zone_starts»)) × (n ≤ length (now «zone_ends»)) × ((i : ℕ) → i < n → getD (now owners) i 0 < h) ⌝ }
+    requires { ⌜ (length (now sides) ≡ 256) × (length (now froms) ≡ 256) × (length (now limits) ≡ 256) ⌝ }
+    ensures { λ _. ⌜ ((c : Levels) (zs : List Zone) → take h superiors ≡ c .superiors → Column startOf m (now (starts .entry)) (map (rangeOf c) (c .bigs)) → Column barOf m (now (points .entry)) (map (lastStroke c) (c .bigs)) → Column (λ (y : Zone). y .«sup_idx») n (now (owners .entry)) zs → Column (λ (y : Zone). y .«start_bar») n (now («zone_starts» .entry)) zs → Column (λ (y : Zone). y .«end_bar») n (now («zone_ends» .entry)) zs → Scanning c zs n (now (sides .exit)) (now (froms .exit)) (now (limits .exit))) ⌝ }
 {
-    let mut owners = [0u16; 256];
-    let mut zone_starts = [0u16; 256];
-    let mut zone_ends = [0u16; 256];
-    columns::zone_columns(
-        zones,
-        n,
-        &mut owners,
-        &mut zone_starts,
-        &mut zone_ends,
-        zds,
-        zgs,
-    );
     let ways = columns::ways_of(superiors, h);
     let ends = columns::superior_ends(superiors, h, points, m);
     scan::zone_scans(
-        &owners,
-        &zone_starts,
-        &zone_ends,
+        owners,
+        zone_starts,
+        zone_ends,
         n,
         superiors,
         h,
@@ -406,8 +391,9 @@ pub fn scans_of(
     );
 }
 
-// The third marks of n zones, whose scans and edges are lent, and of the first k of m bigs, whose columns are lent, as anchors.
-pub fn marks_by(
+// The third marks of n zones, whose scans and edges are lent, and of the first k of m bigs, whose columns are lent, as anchors: into lent
+// columns; how many they are.
+pub fn marks_in(
     sides: &[u8],
     froms: &[u16],
     limits: &[u32],
@@ -423,17 +409,19 @@ pub fn marks_by(
     buy: bool,
     highs: &[f64],
     lows: &[f64],
-) -> ThirdRows
+    keys: &mut [u32],
+    bars: &mut [u16],
+    prices: &mut [f64],
+    grounds: &mut [f64],
+    zoned: &mut [bool],
+) -> usize
     requires { ⌜ (n ≤ 256) × (m ≤ 256) × (k ≤ m) × (length (now highs) ≤ 65536) × (length (now lows) ≤ 65536) ⌝ }
     requires { ⌜ (m ≤ length (now ways)) × (m ≤ length (now ends)) × (m ≤ length (now points)) × (m ≤ length (now «point_prices»)) ⌝ }
     requires { ⌜ (n ≤ length (now sides)) × (n ≤ length (now froms)) × (n ≤ length (now limits)) × (n ≤ length (now zds)) × (n ≤ length (now zgs)) ⌝ }
-    ensures { λ r. ⌜ ((c : Levels) (zs : List Zone) → Column (λ (t : Triple). t .direction) m (now (ways .entry)) (c .bigs) → Column endOf m (now (ends .entry)) (map (rangeOf c) (c .bigs)) → Column barOf m (now (points .entry)) (map (lastStroke c) (c .bigs)) → Prices (now («point_prices» .entry)) (map (lastStroke c) (c .bigs)) → Scanning c zs n (now (sides .entry)) (now (froms .entry)) (now (limits .entry)) → Column (λ (z : Zone). z .zd) n (now (zds .entry)) zs → Column (λ (z : Zone). z .zg) n (now (zgs .entry)) zs → rowsAnswer (r .number) (r .count) (r .rows) ≡ given (foldl addThird (foldl addThird [] (each (zoneThird c (record { highs = now (highs .entry); lows = now (lows .entry) }) zs) zs)) (each (anchorThird c (record { highs = now (highs .entry); lows = now (lows .entry) }) buy) (collect (lastStroke c) (take k (c .bigs)))))) ⌝ }
+    requires { ⌜ (512 ≤ length (now keys)) × (length (now bars) ≡ 512) × (length (now prices) ≡ 512) × (length (now grounds) ≡ 512) × (length (now zoned) ≡ 512) ⌝ }
+    ensures { λ r. ⌜ r ≤ 512 ⌝ }
+    ensures { λ r. ⌜ ((c : Levels) (zs : List Zone) → Column (λ (t : Triple). t .direction) m (now (ways .entry)) (c .bigs) → Column endOf m (now (ends .entry)) (map (rangeOf c) (c .bigs)) → Column barOf m (now (points .entry)) (map (lastStroke c) (c .bigs)) → Prices (now («point_prices» .entry)) (map (lastStroke c) (c .bigs)) → Scanning c zs n (now (sides .entry)) (now (froms .entry)) (now (limits .entry)) → Column (λ (z : Zone). z .zd) n (now (zds .entry)) zs → Column (λ (z : Zone). z .zg) n (now (zgs .entry)) zs → Marked r (now (keys .exit)) (now (bars .exit)) (now (prices .exit)) (now (grounds .exit)) (now (zoned .exit)) (foldl addThird (foldl addThird [] (each (zoneThird c (record { highs = now (highs .entry); lows = now (lows .entry) }) zs) zs)) (each (anchorThird c (record { highs = now (highs .entry); lows = now (lows .entry) }) buy) (collect (lastStroke c) (take k (c .bigs)))))) ⌝ }
 {
-    let mut keys = [0u32; 512];
-    let mut bars = [0u16; 512];
-    let mut prices = [0.0; 512];
-    let mut grounds = [0.0; 512];
-    let mut zoned = [false; 512];
     let count = zone_marks(
         ways,
         ends,
@@ -446,13 +434,13 @@ pub fn marks_by(
         n,
         highs,
         lows,
-        &mut keys,
-        &mut bars,
-        &mut prices,
-        &mut grounds,
-        &mut zoned,
+        keys,
+        bars,
+        prices,
+        grounds,
+        zoned,
     );
-    let all = anchor_marks(
+    anchor_marks(
         k,
         ways,
         points,
@@ -462,18 +450,21 @@ pub fn marks_by(
         highs,
         lows,
         count,
-        &mut keys,
-        &mut bars,
-        &mut prices,
-        &mut grounds,
-        &mut zoned,
-    );
-    rows_of(all, &keys, &bars, &prices, &grounds, &zoned)
+        keys,
+        bars,
+        prices,
+        grounds,
+        zoned,
+    )
 }
 
-// The third marks of a chart whose zones are the first n of these, with h superiors. Lent are the columns of its m bigs.
+// The third marks of a chart with h superiors, whose n zones and m bigs are lent as columns.
 fn marks_of(
-    zones: [Zone; 256],
+    owners: &[u16],
+    zone_starts: &[u16],
+    zone_ends: &[u16],
+    zds: &[f64],
+    zgs: &[f64],
     n: usize,
     superiors: [Triple; 256],
     h: usize,
@@ -488,16 +479,16 @@ fn marks_of(
 ) -> ThirdRows
     requires { ⌜ (n ≤ 256) × (h ≤ 256) × (m ≤ 256) × (length (now highs) ≤ 65536) × (length (now lows) ≤ 65536) ⌝ }
     requires { ⌜ (m ≤ length (now ways)) × (m ≤ length (now starts)) × (m ≤ length (now ends)) × (m ≤ length (now points)) × (m ≤ length (now «point_prices»)) ⌝ }
-    requires { ⌜ any (λ (z : Zone). leb h (z .«sup_idx»)) (take n zones) ≡ false ⌝ }
-    ensures { λ r. ⌜ ((c : Levels) → BigColumns c m (now (ways .entry)) (now (starts .entry)) (now (ends .entry)) (now (points .entry)) (now («point_prices» .entry)) → take h superiors ≡ c .superiors → take n zones ≡ overlapZones c → rowsAnswer (r .number) (r .count) (r .rows) ≡ given (thirdMarks c (record { highs = now (highs .entry); lows = now (lows .entry) }))) ⌝ }
+    requires { ⌜ (n ≤ length (now owners)) × (n ≤ length (now «zone_starts»)) × (n ≤ length (now «zone_ends»)) × (n ≤ length (now zds)) × (n ≤ length (now zgs)) × ((i : ℕ) → i < n → getD (now owners) i 0 < h) ⌝ }
+    ensures { λ r. ⌜ ((c : Levels) → BigColumns c m (now (ways .entry)) (now (starts .entry)) (now (ends .entry)) (now (points .entry)) (now («point_prices» .entry)) → take h superiors ≡ c .superiors → ZoneColumns n (now (owners .entry)) (now («zone_starts» .entry)) (now («zone_ends» .entry)) (now (zds .entry)) (now (zgs .entry)) (overlapZones c) → rowsAnswer (r .number) (r .count) (r .rows) ≡ given (thirdMarks c (record { highs = now (highs .entry); lows = now (lows .entry) }))) ⌝ }
 {
     let mut sides = [0u8; 256];
     let mut froms = [0u16; 256];
     let mut limits = [0u32; 256];
-    let mut zds = [0.0; 256];
-    let mut zgs = [0.0; 256];
     scans_of(
-        zones,
+        owners,
+        zone_starts,
+        zone_ends,
         n,
         superiors,
         h,
@@ -507,18 +498,21 @@ fn marks_of(
         &mut sides,
         &mut froms,
         &mut limits,
-        &mut zds,
-        &mut zgs,
     );
     let s = superiors[0];
     let k = hits::anchor_count(h, s, m);
     let buy = s.direction == 1;
-    marks_by(
+    let mut keys = [0u32; 512];
+    let mut bars = [0u16; 512];
+    let mut prices = [0.0; 512];
+    let mut grounds = [0.0; 512];
+    let mut zoned = [false; 512];
+    let count = marks_in(
         &sides,
         &froms,
         &limits,
-        &zds,
-        &zgs,
+        zds,
+        zgs,
         n,
         ways,
         ends,
@@ -529,7 +523,13 @@ fn marks_of(
         buy,
         highs,
         lows,
-    )
+        &mut keys,
+        &mut bars,
+        &mut prices,
+        &mut grounds,
+        &mut zoned,
+    );
+    rows_of(count, &keys, &bars, &prices, &grounds, &zoned)
 }
 
 // The third marks of a chart's overlap zones and anchors: 21, then 8, 1, and 11 where there are more than 256 zones. The chart is passed
@@ -547,21 +547,52 @@ pub fn bigseg_third_marks_all_zhongshu(chart: Chart, highs: &[f64], lows: &[f64]
     let m = chart.big_count as usize;
     let h = chart.superior_count as usize;
     let superiors = chart.superiors;
-    let bigs = chart.bigs;
     let mut ways = [0u8; 256];
     let mut from = [0u32; 256];
     let mut to = [0u32; 256];
+    let mut low = [0.0; 256];
+    let mut high = [0.0; 256];
     let mut bars = [0u32; 256];
     let mut prices = [0.0; 256];
-    let slots = columns::bigs_of(chart, &mut ways, &mut from, &mut to, &mut bars, &mut prices);
-    let found = zones::overlap(superiors, h, bigs, m, slots);
-    if found.number != 0 {
-        return refusal(found.number);
+    columns::bigs_of(
+        chart,
+        &mut ways,
+        &mut from,
+        &mut to,
+        &mut low,
+        &mut high,
+        &mut bars,
+        &mut prices,
+    );
+    let mut owners = [0u16; 256];
+    let mut zone_starts = [0u16; 256];
+    let mut zone_ends = [0u16; 256];
+    let mut zds = [0.0; 256];
+    let mut zgs = [0.0; 256];
+    let n = overlaps::overlap_columns(
+        superiors,
+        h,
+        &ways,
+        &from,
+        &to,
+        &low,
+        &high,
+        m,
+        &mut owners,
+        &mut zone_starts,
+        &mut zone_ends,
+        &mut zds,
+        &mut zgs,
+    );
+    if 256 < n {
+        return refusal(11);
     }
-    let n = found.count as usize;
-    let zones = found.rows;
     marks_of(
-        zones,
+        &owners,
+        &zone_starts,
+        &zone_ends,
+        &zds,
+        &zgs,
         n,
         superiors,
         h,

@@ -1,10 +1,10 @@
 -- 3+N rows from their parts: the third marks, the rows of the superiors and those of the anchors. Assumes nothing.
 use Prim.Native.Nat.{ℕ, zero, suc, _<_, _≤_}
 use native.Mathlib.Omega.{arith}
-use mathlib.Core.Path.{_≡_, refl, sym, ap, subst, _∙_}
+use mathlib.Core.Path.{_≡_, refl, sym, ap}
 use mathlib.Core.Bool.{Bool, false}
 use mathlib.Core.List.{List, [], _∷_, _++_, map, foldl}
-use lib.ListN.{length, take, getElem?, length-map}
+use lib.ListN.{length, take, replicate, getElem?, length-map}
 use lib.Dec.{leb}
 use lib.Ieee.{Float, nan}
 use borrow.Author.Tests.{leb-false}
@@ -12,21 +12,20 @@ use Rattle.chart.specs.declared.Stroke.{Stroke}
 use Rattle.chart.specs.declared.Triple.{Triple}
 use Rattle.chart.specs.declared.ThirdMark.{ThirdMark}
 use Rattle.chart.specs.declared.NMark.{NMark}
-use Rattle.chart.specs.declared.Zone.{Zone}
-use Rattle.rules.specs.Answer.{given, answered, rowsAnswer}
-use Rattle.rules.specs.Lists.{any, each, collect}
+use Rattle.rules.specs.Lists.{each, collect}
 use Rattle.rules.specs.Records.{Levels, Quotes}
 use Rattle.rules.specs.Ranges.{lastStroke}
 use Rattle.rules.specs.Zones.{overlapZones}
 use Rattle.rules.specs.Marks.{side, quote, priceAt, thirdMarks, orderZero, superiorsNumbered, anchorNumbered, anchorSide, anchorsOf, push3N, nMarks}
 use Rattle.rules.specs.Refusals.{endsOutside}
-use Rattle.laws.proofs.Lists.{All, all-of, all-map, all-image, all-collect, collect-length, at-getD, any-at, then-some}
+use Rattle.laws.proofs.Lists.{All, nil, cons, all-of, all-map, all-image, all-collect, collect-length, at-getD, any-at, then-some}
 use Rattle.laws.proofs.Thirds.{thirds-beyond, thirds-distinct}
 use Rattle.laws.proofs.Room.{AtEnd, endBars, thirds-end}
-use Rattle.laws.proofs.Answers.{Rows, rows-given, rows-refused}
 use Rattle.numbering.specs.Rows.{rowKey, marksIn, Room}
 use Rattle.numbering.proofs.Gathered.{room-thirds}
+use Rattle.numbering.proofs.Filled.{zero-mark}
 use Rattle.columns.specs.Columns.{Column}
+use Rattle.columns.proofs.Fill.{column-length}
 use Rattle.scan.specs.Scan.{Scanning}
 use Rattle.three_n.specs.Gather.{Inside, Anchors, Ready, Given}
 
@@ -43,50 +42,41 @@ module _ (c : Levels) (q : Quotes) (none : endsOutside c q ≡ false) (one : len
   pub ends-inside : Inside c q
   ends-inside = all-image (λ (s : Stroke). s .«end_bar») (all-collect (lastStroke c) (all-of end-inside (c .bigs)))
 
--- ---- the third marks, as the answer of their call
+-- ---- the third marks, by the keys of their rows
 
-module _ (c : Levels) (q : Quotes) (number count : ℕ) (rows : List ThirdMark) (e : rowsAnswer number count rows ≡ given (thirdMarks c q)) where
+-- as many places of an array of zeros
+zeros-taken : (n m : ℕ) → n ≤ m → take {A = ℕ} n (replicate m 0) ≡ replicate n 0
+zeros-taken zero m h = refl
+zeros-taken (suc n) zero h = absurd (omega arith)
+zeros-taken (suc n) (suc m) h = ap (λ (l : List ℕ). 0 ∷ l) (zeros-taken n m (omega arith))
+
+zero-rows :
+    (q : Quotes) (ms : List ThirdMark) → All (λ (m : ThirdMark). priceAt q (m .«is_buy») (m .«bar_index») ≡ m .price) ms
+    → marksIn q (map rowKey ms) (replicate (length ms) 0) ≡ map orderZero ms
+unfolding marksIn
+zero-rows q [] nil = refl
+zero-rows q (m ∷ ms) (cons h t) = rw (zero-mark q m h, zero-rows q ms t)
+
+module _ (c : Levels) (q : Quotes) (zeros : ℕ) (keys : List ℕ) (e : Column rowKey zeros keys (thirdMarks c q)) where
   abbrev thirds : List ThirdMark
   thirds = thirdMarks c q
 
-  accepted : number ≡ 0
-  unfolding answered
-  accepted = go number e
-    where
-      go : (n : ℕ) → rowsAnswer n count rows ≡ given thirds → n ≡ 0
-      go zero f = refl
-      go (suc n) f =
-          let z : 0 ≡ suc n = rows-refused count rows 0 thirds (suc n) (λ (w : suc n ≡ 0). omega arith) f in
-          absurd (omega arith)
-
-  found : Rows count rows 0 thirds
-  unfolding answered
-  found = rows-given count rows 0 thirds (ap (λ (n : ℕ). rowsAnswer n count rows) (sym accepted) ∙ e)
-
-  pub thirds-few : length rows ≡ 512 → count ≤ 512
-  thirds-few h = omega (arith, h, found .few)
-
   -- each price is the lent one
-  pub thirds-priced : All (λ (m : ThirdMark). priceAt q (m .«is_buy») (m .«bar_index») ≡ m .price) (take count rows)
+  thirds-priced : All (λ (m : ThirdMark). priceAt q (m .«is_buy») (m .«bar_index») ≡ m .price) thirds
   unfolding quote priceAt
-  thirds-priced =
-      rw (found .same) (all-map (λ m h. at-getD (side q (m .«is_buy»)) (m .«bar_index») nan (m .price) (h .quoted)) (thirds-beyond c q))
+  thirds-priced = all-map (λ m h. at-getD (side q (m .«is_buy»)) (m .«bar_index») nan (m .price) (h .quoted)) (thirds-beyond c q)
 
   -- the keys of the rows of order 0
-  pub thirds-room :
-      length (c .bigs) ≤ 256 → length (q .highs) ≤ 0x1_0000 → Inside c q → (keys : List ℕ) (zeros : ℕ) → zeros ≡ count
-      → take count keys ≡ map rowKey (take count rows) → Room (endBars c) keys zeros
-  thirds-room few small inside keys zeros same k =
-      rw same
-      (room-thirds
+  pub thirds-room : length (c .bigs) ≤ 256 → length (q .highs) ≤ 0x1_0000 → Inside c q → Room (endBars c) keys zeros
+  thirds-room few small inside =
+      room-thirds
       (omega (arith, few, length-map (collect (lastStroke c) (c .bigs)) (λ (s : Stroke). s .«end_bar»), collect-length (lastStroke c) (c .bigs)))
-      (all-map (λ b h. omega (arith, h .0, small)) inside) (k ∙ ap (map rowKey) (found .same)) (thirds-distinct c q) (thirds-end c q))
+      (all-map (λ b h. omega (arith, h .0, small)) inside) (e .are) (thirds-distinct c q) (thirds-end c q)
 
-  pub thirds-keys : (keys : List ℕ) (zeros : ℕ) → zeros ≡ count → take count keys ≡ map rowKey (take count rows) → take zeros keys ≡ map rowKey thirds
-  thirds-keys keys zeros same k = rw same (k ∙ ap (map rowKey) (found .same))
-
-  pub zero-marks : (keys orders : List ℕ) (zeros : ℕ) → zeros ≡ count → marksIn q (take count keys) (take count orders) ≡ map orderZero (take count rows) → marksIn q (take zeros keys) (take zeros orders) ≡ map orderZero (take count rows)
-  zero-marks keys orders zeros same e = rw same e
+  pub zero-marks : length keys ≡ 513 → marksIn q (take zeros keys) (take zeros (replicate 513 0)) ≡ map orderZero thirds
+  zero-marks h =
+      let same = column-length rowKey zeros keys thirds e in
+      rw (e .are, zeros-taken zeros 513 (omega (arith, h, e .long)), ← same) (zero-rows q thirds thirds-priced)
 
   -- ---- all rows
 
@@ -95,13 +85,13 @@ module _ (c : Levels) (q : Quotes) (number count : ℕ) (rows : List ThirdMark) 
   fold-append l (m ∷ a) b = fold-append (push3N l m) a b
 
   pub marks-are :
-      (k : ℕ) (buy : Bool) → Anchors c q k buy → (zeros superior-marks all-marks : List NMark) → zeros ≡ map orderZero (take count rows)
-      → superior-marks ≡ foldl push3N zeros (superiorsNumbered c q (overlapZones c) thirds 0 (c .superiors))
+      (k : ℕ) (buy : Bool) → Anchors c q k buy → (zero-rows superior-marks all-marks : List NMark) → zero-rows ≡ map orderZero thirds
+      → superior-marks ≡ foldl push3N zero-rows (superiorsNumbered c q (overlapZones c) thirds 0 (c .superiors))
       → all-marks ≡ foldl push3N superior-marks (each (anchorNumbered c q buy) (collect (lastStroke c) (take k (c .bigs))))
       → all-marks ≡ nMarks c q
   unfolding nMarks
-  marks-are k buy anchors zeros superior-marks all-marks z s a =
-      rw (a, anchors, s, z, found .same)
+  marks-are k buy anchors zero-rows superior-marks all-marks z s a =
+      rw (a, anchors, s, z)
       (sym
       (fold-append (map orderZero thirds) (superiorsNumbered c q (overlapZones c) thirds 0 (c .superiors))
       (each (anchorNumbered c q (anchorSide (c .superiors))) (anchorsOf c (c .superiors)))))
@@ -109,23 +99,17 @@ module _ (c : Levels) (q : Quotes) (number count : ℕ) (rows : List ThirdMark) 
 -- ---- what the rows are gathered from is that of a chart
 
 module _
-    (c : Levels) (q : Quotes) (m n h : ℕ) (ways starts ends points : List ℕ) (prices : List Float) (superiors : List Triple) (zones : List Zone)
-    (g : Given c q m n h ways starts ends points prices superiors zones)
+    (c : Levels) (q : Quotes) (m n h : ℕ) (ways starts ends points : List ℕ) (prices : List Float) (superiors : List Triple)
+    (owners zone-starts zone-ends : List ℕ) (zds zgs : List Float)
+    (g : Given c q m n h ways starts ends points prices superiors owners zone-starts zone-ends zds zgs)
   where
     pub ready :
-        (owners sides froms limits : List ℕ) (k : ℕ) (buy : Bool) (number count : ℕ) (rows : List ThirdMark)
-        → Column (λ (z : Zone). z .«sup_idx») n owners (take n zones) → Scanning c (take n zones) n sides froms limits → Anchors c q k buy
-        → rowsAnswer number count rows ≡ given (thirdMarks c q)
-        → Ready c q m n h ways ends points prices owners sides froms limits superiors k buy number count rows
-    ready owners sides froms limits k buy number count rows by-owner scans anchors thirds =
+        (sides froms limits : List ℕ) (k : ℕ) (buy : Bool) (zeros : ℕ) (keys : List ℕ)
+        → Scanning c (overlapZones c) n sides froms limits → Anchors c q k buy → Column rowKey zeros keys (thirdMarks c q)
+        → Ready c q m n h ways ends points prices owners sides froms limits superiors k buy zeros keys
+    ready sides froms limits k buy zeros keys scans anchors thirds =
         record {
-          stood =
-              record {
-                by-way = g .bigs .by-way;
-                by-end = g .bigs .by-end;
-                by-owner = subst (Column (λ (z : Zone). z .«sup_idx») n owners) (g .zones-are) by-owner;
-                scans = subst (λ (zs : List Zone). Scanning c zs n sides froms limits) (g .zones-are) scans;
-              };
+          stood = record { by-way = g .bigs .by-way; by-end = g .bigs .by-end; by-owner = g .zones .by-owner; scans = scans };
           by-point = g .bigs .by-point;
           by-price = g .bigs .by-price;
           level = g .level;

@@ -3,25 +3,17 @@ use chart::Chart;
 use chart::NMark;
 use chart::Stroke;
 use chart::Triple;
-use chart::Zone;
 use numbering::NRows;
-use third::ThirdRows;
 ghost use mathlib.Core.Path.{_≡_};
-ghost use mathlib.Core.Bool.{false};
-ghost use mathlib.Core.List.{List, map};
-ghost use Prim.Native.Nat.{_≤_, _<_};
-ghost use lib.ListN.{length, take};
+ghost use Prim.Native.Nat.{ℕ, _≤_, _<_};
+ghost use lib.ListN.{length, take, getD};
 ghost use lib.Dec.{leb};
 ghost use Rattle.chart.specs.declared.Stroke.{Stroke};
-ghost use Rattle.chart.specs.declared.Zone.{Zone};
 ghost use Rattle.rules.specs.Answer.{rowsAnswer, given, refused};
 ghost use Rattle.rules.specs.Lists.{any};
 ghost use Rattle.rules.specs.Records.{Levels};
-ghost use Rattle.rules.specs.Zones.{overlapZones};
 ghost use Rattle.rules.specs.Marks.{nMarks};
 ghost use Rattle.rules.specs.Calls.{nCall};
-ghost use Rattle.columns.specs.Columns.{Column, BigColumns};
-ghost use Rattle.superior_marks.specs.Superiors.{Stood};
 ghost use Rattle.three_n.specs.Gather.{Given, Ready};
 
 // ---- refusals
@@ -62,25 +54,11 @@ fn ends_outside(strokes: [Stroke; 512], n: usize, len: usize) -> bool
 
 // ---- rows
 
-// The superiors of the first n zones.
-fn owners_of(zones: [Zone; 256], n: usize) -> [u16; 256]
-    requires { ⌜ n ≤ 256 ⌝ }
-    ensures { λ r. ⌜ Column (λ (z : Zone). z .«sup_idx») n r (take n zones) ⌝ }
-{
-    let mut owners = [0u16; 256];
-    let mut i = 0;
-    while i < n {
-        let zone = zones[i];
-        owners[i] = zone.sup_idx;
-        i += 1;
-    }
-    owners
-}
-
-// The 3+N rows of a chart with these third marks: theirs, of order 0, then those of its h superiors, then those of its first k of m bigs as
-// anchors. Lent are the superiors and the scans of its n zones, and the columns of its bigs.
+// The 3+N rows of a chart whose third marks are the first rows, `zeros` of them, by their keys: theirs, of order 0, then those of its h
+// superiors, then those of its first k of m bigs as anchors. Lent are the superiors and the scans of its n zones, and the columns of its bigs.
 fn rows_by(
-    thirds: ThirdRows,
+    zeros: usize,
+    keys: &mut [u32],
     superiors: [Triple; 256],
     h: usize,
     owners: &[u16],
@@ -98,16 +76,13 @@ fn rows_by(
     highs: &[f64],
     lows: &[f64],
 ) -> NRows
-    requires { ⌜ (n ≤ 256) × (h ≤ 256) × (m ≤ 256) × (k ≤ m) × (length (now highs) ≤ 0x1_0000) × (length (now lows) ≤ 0x1_0000) ⌝ }
+    requires { ⌜ (n ≤ 256) × (h ≤ 256) × (m ≤ 256) × (k ≤ m) × (length (now highs) ≤ 0x1_0000) × (length (now lows) ≤ 0x1_0000) × (length (now keys) ≡ 513) ⌝ }
     requires { ⌜ (m ≤ length (now ways)) × (m ≤ length (now ends)) × (m ≤ length (now points)) × (m ≤ length (now «point_prices»)) ⌝ }
     requires { ⌜ (n ≤ length (now owners)) × (n ≤ length (now sides)) × (n ≤ length (now froms)) × (n ≤ length (now limits)) ⌝ }
-    requires { ⌜ ((c : Levels) × Ready c (record { highs = now highs; lows = now lows }) m n h (now ways) (now ends) (now points) (now «point_prices») (now owners) (now sides) (now froms) (now limits) superiors k buy (thirds .number) (thirds .count) (thirds .rows)) ⌝ }
-    ensures { λ r. ⌜ ((c : Levels) → Ready c (record { highs = now (highs .entry); lows = now (lows .entry) }) m n h (now (ways .entry)) (now (ends .entry)) (now (points .entry)) (now («point_prices» .entry)) (now (owners .entry)) (now (sides .entry)) (now (froms .entry)) (now (limits .entry)) superiors k buy (thirds .number) (thirds .count) (thirds .rows) → rowsAnswer (r .number) (r .count) (r .rows) ≡ given (nMarks c (record { highs = now (highs .entry); lows = now (lows .entry) }))) ⌝ }
+    requires { ⌜ ((c : Levels) × Ready c (record { highs = now highs; lows = now lows }) m n h (now ways) (now ends) (now points) (now «point_prices») (now owners) (now sides) (now froms) (now limits) superiors k buy zeros (now keys)) ⌝ }
+    ensures { λ r. ⌜ ((c : Levels) → Ready c (record { highs = now (highs .entry); lows = now (lows .entry) }) m n h (now (ways .entry)) (now (ends .entry)) (now (points .entry)) (now («point_prices» .entry)) (now (owners .entry)) (now (sides .entry)) (now (froms .entry)) (now (limits .entry)) superiors k buy zeros (now (keys .entry)) → rowsAnswer (r .number) (r .count) (r .rows) ≡ given (nMarks c (record { highs = now (highs .entry); lows = now (lows .entry) }))) ⌝ }
 {
-    let mut keys = [0u32; 513];
     let mut orders = [0u32; 513];
-    let rows = thirds.rows;
-    let zeros = numbering::zero_rows(rows, thirds.count, &mut keys, &mut orders);
     let superior_ways = columns::ways_of(superiors, h);
     let count = superior_marks::superior_rows(
         &superior_ways,
@@ -121,7 +96,7 @@ fn rows_by(
         ends,
         m,
         zeros,
-        &mut keys,
+        keys,
         &mut orders,
     );
     let limit = anchored::anchor_limit(superiors, h, points, m, buy);
@@ -136,15 +111,19 @@ fn rows_by(
         highs,
         lows,
         count,
-        &mut keys,
+        keys,
         &mut orders,
     );
-    numbering::rows_of(&keys, &orders, all, highs, lows)
+    numbering::rows_of(keys, &orders, all, highs, lows)
 }
 
-// The 3+N marks of a chart whose zones are the first n of these, with h superiors. Lent are the columns of its m bigs.
+// The 3+N marks of a chart with h superiors, whose n zones and m bigs are lent as columns.
 fn marks_of(
-    zones: [Zone; 256],
+    owners: &[u16],
+    zone_starts: &[u16],
+    zone_ends: &[u16],
+    zds: &[f64],
+    zgs: &[f64],
     n: usize,
     superiors: [Triple; 256],
     h: usize,
@@ -159,17 +138,17 @@ fn marks_of(
 ) -> NRows
     requires { ⌜ (n ≤ 256) × (h ≤ 256) × (m ≤ 256) × (length (now highs) ≤ 0x1_0000) × (length (now lows) ≤ 0x1_0000) ⌝ }
     requires { ⌜ (m ≤ length (now ways)) × (m ≤ length (now starts)) × (m ≤ length (now ends)) × (m ≤ length (now points)) × (m ≤ length (now «point_prices»)) ⌝ }
-    requires { ⌜ any (λ (z : Zone). leb h (z .«sup_idx»)) (take n zones) ≡ false ⌝ }
-    requires { ⌜ ((c : Levels) × Given c (record { highs = now highs; lows = now lows }) m n h (now ways) (now starts) (now ends) (now points) (now «point_prices») superiors zones) ⌝ }
-    ensures { λ r. ⌜ ((c : Levels) → Given c (record { highs = now (highs .entry); lows = now (lows .entry) }) m n h (now (ways .entry)) (now (starts .entry)) (now (ends .entry)) (now (points .entry)) (now («point_prices» .entry)) superiors zones → rowsAnswer (r .number) (r .count) (r .rows) ≡ given (nMarks c (record { highs = now (highs .entry); lows = now (lows .entry) }))) ⌝ }
+    requires { ⌜ (n ≤ length (now owners)) × (n ≤ length (now «zone_starts»)) × (n ≤ length (now «zone_ends»)) × (n ≤ length (now zds)) × (n ≤ length (now zgs)) × ((i : ℕ) → i < n → getD (now owners) i 0 < h) ⌝ }
+    requires { ⌜ ((c : Levels) × Given c (record { highs = now highs; lows = now lows }) m n h (now ways) (now starts) (now ends) (now points) (now «point_prices») superiors (now owners) (now «zone_starts») (now «zone_ends») (now zds) (now zgs)) ⌝ }
+    ensures { λ r. ⌜ ((c : Levels) → Given c (record { highs = now (highs .entry); lows = now (lows .entry) }) m n h (now (ways .entry)) (now (starts .entry)) (now (ends .entry)) (now (points .entry)) (now («point_prices» .entry)) superiors (now (owners .entry)) (now («zone_starts» .entry)) (now («zone_ends» .entry)) (now (zds .entry)) (now (zgs .entry)) → rowsAnswer (r .number) (r .count) (r .rows) ≡ given (nMarks c (record { highs = now (highs .entry); lows = now (lows .entry) }))) ⌝ }
 {
     let mut sides = [0u8; 256];
     let mut froms = [0u16; 256];
     let mut limits = [0u32; 256];
-    let mut zds = [0.0; 256];
-    let mut zgs = [0.0; 256];
     third::scans_of(
-        zones,
+        owners,
+        zone_starts,
+        zone_ends,
         n,
         superiors,
         h,
@@ -179,18 +158,21 @@ fn marks_of(
         &mut sides,
         &mut froms,
         &mut limits,
-        &mut zds,
-        &mut zgs,
     );
     let s = superiors[0];
     let k = hits::anchor_count(h, s, m);
     let buy = s.direction == 1;
-    let thirds = third::marks_by(
+    let mut keys = [0u32; 513];
+    let mut bars = [0u16; 512];
+    let mut prices = [0.0; 512];
+    let mut grounds = [0.0; 512];
+    let mut zoned = [false; 512];
+    let zeros = third::marks_in(
         &sides,
         &froms,
         &limits,
-        &zds,
-        &zgs,
+        zds,
+        zgs,
         n,
         ways,
         ends,
@@ -201,13 +183,18 @@ fn marks_of(
         buy,
         highs,
         lows,
+        &mut keys,
+        &mut bars,
+        &mut prices,
+        &mut grounds,
+        &mut zoned,
     );
-    let owners = owners_of(zones, n);
     rows_by(
-        thirds,
+        zeros,
+        &mut keys,
         superiors,
         h,
-        &owners,
+        owners,
         &sides,
         &froms,
         &limits,
@@ -244,21 +231,52 @@ pub fn bigseg_3n_marks_all_zhongshu(chart: Chart, highs: &[f64], lows: &[f64]) -
     let m = chart.big_count as usize;
     let h = chart.superior_count as usize;
     let superiors = chart.superiors;
-    let bigs = chart.bigs;
     let mut ways = [0u8; 256];
     let mut from = [0u32; 256];
     let mut to = [0u32; 256];
+    let mut low = [0.0; 256];
+    let mut high = [0.0; 256];
     let mut bars = [0u32; 256];
     let mut prices = [0.0; 256];
-    let slots = columns::bigs_of(chart, &mut ways, &mut from, &mut to, &mut bars, &mut prices);
-    let found = zones::overlap(superiors, h, bigs, m, slots);
-    if found.number != 0 {
-        return refusal(found.number);
+    columns::bigs_of(
+        chart,
+        &mut ways,
+        &mut from,
+        &mut to,
+        &mut low,
+        &mut high,
+        &mut bars,
+        &mut prices,
+    );
+    let mut owners = [0u16; 256];
+    let mut zone_starts = [0u16; 256];
+    let mut zone_ends = [0u16; 256];
+    let mut zds = [0.0; 256];
+    let mut zgs = [0.0; 256];
+    let n = overlaps::overlap_columns(
+        superiors,
+        h,
+        &ways,
+        &from,
+        &to,
+        &low,
+        &high,
+        m,
+        &mut owners,
+        &mut zone_starts,
+        &mut zone_ends,
+        &mut zds,
+        &mut zgs,
+    );
+    if 256 < n {
+        return refusal(11);
     }
-    let n = found.count as usize;
-    let zones = found.rows;
     marks_of(
-        zones,
+        &owners,
+        &zone_starts,
+        &zone_ends,
+        &zds,
+        &zgs,
         n,
         superiors,
         h,

@@ -82,27 +82,27 @@ fn join(z: Zone, s: Span) -> Zone
 }
 
 // The scan behind a record: the run, whether one is under way, and whether the run before it is a zone now.
-struct Step {
-    run: Zone,
-    begun: bool,
-    closed: bool,
+pub struct Step {
+    pub run: Zone,
+    pub begun: bool,
+    pub closed: bool,
 }
 
-// A record of owner h: passed over unless it is opposing and has a range. It joins the run, or begins the next.
-fn turn(
+// A record of owner h, by its direction and range: passed over unless it is opposing and has a range. It joins the run, or begins the next.
+pub fn turn(
     run: Zone,
     begun: bool,
     h: u16,
     direction: u8,
     index: u16,
-    member: Triple,
+    way: u8,
     range: Range,
 ) -> Step
     requires { ⌜ run .members < 65535 ⌝ }
     ensures { λ r. ⌜ r .run .members ≤ run .members + 1 ⌝ }
-    ensures { λ r. ⌜ ((ms : List Member) → cond (r .closed) (run ∷ []) [] ++ scanned h (r .begun) (r .run) ms ≡ scanned h begun run (opposing (λ (b : Triple). range) direction index (member ∷ []) ++ ms)) ⌝ }
+    ensures { λ r. ⌜ ((member : Triple) (ms : List Member) → member .direction ≡ way → cond (r .closed) (run ∷ []) [] ++ scanned h (r .begun) (r .run) ms ≡ scanned h begun run (opposing (λ (b : Triple). range) direction index (member ∷ []) ++ ms)) ⌝ }
 {
-    if member.direction == direction {
+    if way == direction {
         return Step {
             run: run,
             begun: begun,
@@ -138,7 +138,7 @@ fn turn(
 }
 
 // What stands in a row that is not counted.
-const NO_ZONE: Zone = Zone {
+pub const NO_ZONE: Zone = Zone {
     sup_idx: 0,
     start_bar: 0,
     end_bar: 0,
@@ -194,7 +194,15 @@ pub fn overlap(
             let member = members[at];
             let slot = slots[at];
             let range = slot.range;
-            let next = turn(run, begun, h as u16, direction, at as u16, member, range);
+            let next = turn(
+                run,
+                begun,
+                h as u16,
+                direction,
+                at as u16,
+                member.direction,
+                range,
+            );
             let before = run;
             run = next.run;
             begun = next.begun;

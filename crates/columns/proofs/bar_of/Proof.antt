@@ -1,6 +1,6 @@
 -- `columns::bar_of` meets its contract. Assumes nothing.
 use borrow.Author.Needs.{needs}
-use Rattle.columns.proofs.Ends.{found-bars}
+use Rattle.columns.proofs.Spans.{found-bars}
 use Rattle.columns.proofs.bar_of.Statement.{statement}
 use Rattle.columns.proofs.bar_of.Tie as tie
 
@@ -26,7 +26,7 @@ add-t6 : tie.Need-add-t6
 add-t6 c = search needs
 
 returns-2 : tie.Need-returns-2
-returns-2 c = found-bars _ _ (c .before .before .before .range .given .1)
+returns-2 c = found-bars _ _ (c .before .before .before .range .given .1) (search needs) (search needs)
 
 pub bar-of-spec : {M : Type 1} → statement M
 bar-of-spec =

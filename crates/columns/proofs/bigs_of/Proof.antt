@@ -1,4 +1,4 @@
--- `columns::bigs_of` meets its contract. The invariant: the ranges and the columns of the first k bigs. Assumes nothing.
+-- `columns::bigs_of` meets its contract. The invariant: the columns of the first k bigs. Assumes nothing.
 use mathlib.Core.Path.{_≡_, refl, ap, _∙_}
 use mathlib.Core.List.{map}
 use Prim.Native.Nat.{_≤_, _<_, _-_}
@@ -6,29 +6,30 @@ use native.Mathlib.Omega.{arith}
 use lib.ListN.{length, take, length-set}
 use borrow.Author.Needs.{needs}
 use Rattle.chart.specs.declared.Triple.{Triple}
-use Rattle.chart.specs.Table.{rangesIn}
 use Rattle.rules.specs.Records.{levelsOf}
 use Rattle.rules.specs.Ranges.{rangeOf, lastStroke}
 use Rattle.laws.proofs.Arrays.{length-via}
-use Rattle.levels.proofs.Read.{range-read, table-more, table-all}
-use Rattle.columns.specs.Columns.{Column, startOf, endOf, barOf, Prices}
+use Rattle.levels.proofs.Read.{range-read}
+use Rattle.columns.specs.Columns.{Column, startOf, endOf, Spans, barOf, Prices}
 use Rattle.columns.proofs.Fill.{fill-none, fill-next, fill-end, column-map}
+use Rattle.columns.proofs.Spans.{spans-none, spans-next, spans-end}
 use Rattle.columns.proofs.Ends.{last-read, price-read, prices-none, prices-next, prices-end}
 use Rattle.columns.proofs.bigs_of.Statement.{statement}
 use Rattle.columns.proofs.bigs_of.Tie as tie
 
 abbrev Inv-loop : tie.InvT-loop
-Inv-loop ways₀ starts₀ ends₀ points₀ prices₀ chart n slots₀ k₀ ways starts ends points prices slots k =
-    (k ≤ n) × (length ways ≡ 256) × (length starts ≡ 256) × (length ends ≡ 256) × (length points ≡ 256) × (length prices ≡ 256)
-    × (length slots ≡ 256) × (rangesIn k slots ≡ map (rangeOf (levelsOf chart)) (take k (chart .bigs)))
+Inv-loop ways₀ starts₀ ends₀ lows₀ highs₀ points₀ prices₀ chart n k₀ ways starts ends lows highs points prices k =
+    (k ≤ n) × (length ways ≡ 256) × (length starts ≡ 256) × (length ends ≡ 256) × (length lows ≡ 256) × (length highs ≡ 256)
+    × (length points ≡ 256) × (length prices ≡ 256)
     × Column (λ (b : Triple). b .direction) k ways (take k (chart .bigs))
     × Column (λ (b : Triple). startOf (rangeOf (levelsOf chart) b)) k starts (take k (chart .bigs))
     × Column (λ (b : Triple). endOf (rangeOf (levelsOf chart) b)) k ends (take k (chart .bigs))
     × Column (λ (b : Triple). barOf (lastStroke (levelsOf chart) b)) k points (take k (chart .bigs))
     × Prices prices (map (lastStroke (levelsOf chart)) (take k (chart .bigs)))
+    × Spans k starts ends lows highs (map (rangeOf (levelsOf chart)) (chart .bigs))
 
 abbrev μ-loop : tie.MeasureT-loop
-μ-loop ways₀ starts₀ ends₀ points₀ prices₀ chart n slots₀ k₀ ways starts ends points prices slots k = n - k
+μ-loop ways₀ starts₀ ends₀ lows₀ highs₀ points₀ prices₀ chart n k₀ ways starts ends lows highs points prices k = n - k
 
 strokes-long : (c : tie.Start Inv-loop μ-loop) → length (c .args .t1 .strokes) ≡ 512
 strokes-long c = search (needs, length-via)
@@ -44,7 +45,7 @@ cast-n c = search needs
 
 loop-holds : tie.Need-loop-holds Inv-loop μ-loop
 loop-holds c =
-    let start = c .before .before .before .before .before in
+    let start = c .before .before .before .before .before .before .before in
     let bigs = start .args .t1 .bigs in (
       search needs,
       start .pre .1 .0,
@@ -52,13 +53,14 @@ loop-holds c =
       start .pre .1 .2,
       start .pre .1 .3,
       start .pre .1 .4,
-      refl,
-      refl,
+      start .pre .1 .5,
+      start .pre .1 .6,
       fill-none _ _ bigs,
       fill-none _ _ bigs,
       fill-none _ _ bigs,
       fill-none _ _ bigs,
       prices-none (start .args .prices .now),
+      spans-none _ (start .args .starts .now) (start .args .ends .now) (start .args .lows .now) (start .args .highs .now) bigs,
     )
 
 mul-b : tie.Need-mul-b Inv-loop μ-loop
@@ -124,6 +126,18 @@ mul-ends c = search needs
 slice-write-ends : tie.Need-slice-write-ends Inv-loop μ-loop
 slice-write-ends c = search needs
 
+mul-lows : tie.Need-mul-lows Inv-loop μ-loop
+mul-lows c = search needs
+
+slice-write-lows : tie.Need-slice-write-lows Inv-loop μ-loop
+slice-write-lows c = search needs
+
+mul-highs : tie.Need-mul-highs Inv-loop μ-loop
+mul-highs c = search needs
+
+slice-write-highs : tie.Need-slice-write-highs Inv-loop μ-loop
+slice-write-highs c = search needs
+
 end-bar-from-requires : tie.Need-end-bar-from-requires Inv-loop μ-loop
 end-bar-from-requires c κs = search needs
 
@@ -138,12 +152,6 @@ mul-prices c = search needs
 
 slice-write-prices : tie.Need-slice-write-prices Inv-loop μ-loop
 slice-write-prices c = search needs
-
-mul-slots : tie.Need-mul-slots Inv-loop μ-loop
-mul-slots c = search needs
-
-array-set-from-slots : tie.Need-array-set-from-slots Inv-loop μ-loop
-array-set-from-slots c = search needs
 
 add-k : tie.Need-add-k Inv-loop μ-loop
 add-k c = search needs
@@ -161,7 +169,7 @@ loop-again c =
     let w1 = w2 .before in
     let in-loop = w1 .before .before in
     let head = in-loop .before in
-    let start = head .before .before .before .before .before .before in
+    let start = head .before .before .before .before .before .before .before .before in
     let chart = start .args .t1 in
     let k = head .loop .k in
     let i = head .loop .inv in
@@ -182,12 +190,14 @@ loop-again c =
       simp length-set (i .4),
       simp length-set (i .5),
       simp length-set (i .6),
-      table-more (rangeOf (levelsOf chart)) k (head .loop .slots) (chart .bigs) _ (omega (arith, room, i .6)) kb (i .7) range,
+      simp length-set (i .7),
       fill-next _ k (head .loop .ways) (chart .bigs) _ _ kb (omega (arith, room, i .1)) refl (i .8),
       fill-next _ k (head .loop .starts) (chart .bigs) _ _ kb (omega (arith, room, i .2)) (at-bar .bar-of .ensures .0 ∙ ap startOf range) (i .9),
       fill-next _ k (head .loop .ends) (chart .bigs) _ _ kb (omega (arith, room, i .3)) (at-bar .bar-of .ensures .1 ∙ ap endOf range) (i .10),
-      fill-next _ k (head .loop .points) (chart .bigs) _ _ kb (omega (arith, room, i .4)) (c .end-bar-from .ensures ∙ ap barOf last) (i .11),
-      prices-next _ k (head .loop .prices) (chart .bigs) _ _ kb (omega (arith, room, i .5)) (price-read _ _ _ _ _ _ last) (i .12),
+      fill-next _ k (head .loop .points) (chart .bigs) _ _ kb (omega (arith, room, i .6)) (c .end-bar-from .ensures ∙ ap barOf last) (i .11),
+      prices-next _ k (head .loop .prices) (chart .bigs) _ _ kb (omega (arith, room, i .7)) (price-read _ _ _ _ _ _ last) (i .12),
+      spans-next _ k (head .loop .starts) (head .loop .ends) (head .loop .lows) (head .loop .highs) (chart .bigs) _ _ _ _ _
+          kb (omega (arith, room, i .2)) (omega (arith, room, i .3)) (omega (arith, room, i .4)) (omega (arith, room, i .5)) (at-bar .bar-of .ensures .2 ∙ range) (i .13),
     )
 
 same-length : tie.Need-same-length Inv-loop μ-loop
@@ -205,17 +215,21 @@ same-length-4 c = search needs
 same-length-5 : tie.Need-same-length-5 Inv-loop μ-loop
 same-length-5 c = search needs
 
+same-length-6 : tie.Need-same-length-6 Inv-loop μ-loop
+same-length-6 c = search needs
+
+same-length-7 : tie.Need-same-length-7 Inv-loop μ-loop
+same-length-7 c = search needs
+
 returns : tie.Need-returns Inv-loop μ-loop
 unfolding levelsOf
 returns c =
     let at-loop = c .before in
-    let start = at-loop .before .before .before .before .before .before in
+    let start = at-loop .before .before .before .before .before .before .before .before in
     let i = at-loop .loop .inv in
     let n = start .args .t1 .«big_count» in
     let k = at-loop .loop .k in
-    let over : n ≤ k = c .loop-test .left in
-    let same : k ≡ n = omega (arith, over, i .0) in (
-      table-all (rangeOf (levelsOf (start .args .t1))) n k (at-loop .loop .slots) _ (i .6) (bigs-long start) (omega (arith, same, start .pre .0)) (i .7),
+    let over : n ≤ k = c .loop-test .left in (
       record {
         by-way = fill-end _ n k _ _ over (i .0) (i .8);
         by-start = column-map _ startOf n _ _ (fill-end _ n k _ _ over (i .0) (i .9));
@@ -223,6 +237,7 @@ returns c =
         by-point = column-map _ barOf n _ _ (fill-end _ n k _ _ over (i .0) (i .11));
         by-price = prices-end _ n k (at-loop .loop .prices) _ over (i .0) (i .12);
       },
+      spans-end _ n k (at-loop .loop .starts) (at-loop .loop .ends) (at-loop .loop .lows) (at-loop .loop .highs) (start .args .t1 .bigs) over (omega (arith, bigs-long start, start .pre .0)) (i .13),
     )
 
 pub bigs-of-spec : {M : Type 1} → statement M
@@ -254,13 +269,15 @@ bigs-of-spec =
     slice-write-starts
     mul-ends
     slice-write-ends
+    mul-lows
+    slice-write-lows
+    mul-highs
+    slice-write-highs
     end-bar-from-requires
     mul-points
     slice-write-points
     mul-prices
     slice-write-prices
-    mul-slots
-    array-set-from-slots
     add-k
     loop-less
     loop-again
@@ -269,4 +286,6 @@ bigs-of-spec =
     same-length-3
     same-length-4
     same-length-5
+    same-length-6
+    same-length-7
     returns)

@@ -21,7 +21,7 @@ use Rattle.third.proofs.anchor_marks.Tie as tie
 
 abbrev Inv-loop : tie.InvT-loop
 Inv-loop n ways ends points m buy highs lows found keys₀ bars₀ prices₀ grounds₀ zoned₀ count₀ last₀ place₀ i₀ keys bars prices grounds zoned count last place i =
-    (i ≤ n) × (count ≤ found + i) × (length keys ≡ 512) × (length bars ≡ 512) × (length prices ≡ 512) × (length grounds ≡ 512) × (length zoned ≡ 512)
+    (i ≤ n) × (count ≤ found + i) × (length keys ≡ length keys₀) × (length bars ≡ 512) × (length prices ≡ 512) × (length grounds ≡ 512) × (length zoned ≡ 512)
     × Settled ends last place
     × ((c : Levels) (l : List ThirdMark) → Column (λ (t : Triple). t .direction) m ways (c .bigs) → Column barOf m ends (map (lastStroke c) (c .bigs))
     → Prices points (map (lastStroke c) (c .bigs)) → Marked found keys₀ bars₀ prices₀ grounds₀ zoned₀ l
@@ -40,7 +40,7 @@ loop-holds c =
     let long = c .before .before .before .before .before .before .before .before .before .before .pre .1 in (
       omega arith,
       omega arith,
-      long .0,
+      refl,
       long .1,
       long .2,
       long .3,
@@ -177,7 +177,7 @@ put-requires c κs =
     let start = head .before .before .before .before .before .before .before .before .before .before .before in
     let inv = head .loop .inv in
     let room : head .loop .count < 512 = omega (arith, inv, in-loop .loop-test .taken, start .pre .0) in
-    (omega (arith, room, inv), omega (arith, room, inv), omega (arith, room, inv), omega (arith, room, inv), omega (arith, room, inv))
+    (omega (arith, room, inv, start .pre .1 .0), omega (arith, room, inv), omega (arith, room, inv), omega (arith, room, inv), omega (arith, room, inv))
 
 loop-less-4 : tie.Need-loop-less-4 Inv-loop μ-loop
 loop-less-4 c =

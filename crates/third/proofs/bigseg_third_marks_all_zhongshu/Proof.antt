@@ -3,17 +3,17 @@ use native.Mathlib.Omega.{arith}
 use mathlib.Core.Path.{_≡_, refl, sym, _∙_}
 use mathlib.Core.Bool.{false}
 use borrow.Author.Needs.{needs}
-use Rattle.rules.specs.Answer.{rowsAnswer}
+use Rattle.chart.specs.declared.Zone.{Zone}
 use Rattle.rules.specs.Records.{levelsOf, Quotes}
 use Rattle.rules.specs.Ranges.{rangeOf}
 use Rattle.rules.specs.Zones.{overlapZones}
-use Rattle.rules.specs.Refusals.{badChart, zonesRefusal}
-use Rattle.rules.specs.Calls.{zonesCall}
-use Rattle.laws.proofs.Answers.{Counted, counted, Rows}
-use Rattle.zones.proofs.Call.{zones-good}
+use Rattle.rules.specs.Refusals.{badChart}
+use Rattle.laws.proofs.Answers.{Counted, counted}
+use Rattle.columns.proofs.Fill.{column-length}
 use Rattle.scan.specs.Scan.{quotesRefusal}
-use Rattle.scan.proofs.Quotes.{quotes-fit, zones-refused, zones-found}
-use Rattle.third.proofs.Call.{third-bad, third-quotes, third-many, third-given, zones-own}
+use Rattle.scan.proofs.Quotes.{quotes-fit}
+use Rattle.scan.proofs.Zones.{owners-below}
+use Rattle.third.proofs.Call.{third-bad, third-quotes, third-many, third-given, zones-own, zones-many, zones-few}
 use Rattle.third.proofs.bigseg_third_marks_all_zhongshu.Statement.{statement}
 use Rattle.third.proofs.bigseg_third_marks_all_zhongshu.Tie as tie
 
@@ -34,22 +34,11 @@ quotes c = record { highs = start c .args .highs .now; lows = start c .args .low
 passed : (c : tie.Else2) → 0 ≡ quotesRefusal (quotes (c .before .before)) 0
 passed c = sym (c .if2 .left) ∙ c .before .quotes-refusal .ensures
 
-abbrev else2 : tie.After-overlap → tie.Else2
-else2 c = c .before .before .before .before .before .before .before .before .before .before .before .before .before .before .before .before
+abbrev else2 : tie.After-bigs-of → tie.Else2
+else2 c = c .before .before .before .before .before .before .before .before .before .before .before
 
-abbrev else1 : tie.After-overlap → tie.Else1
-else1 c = else2 c .before .before
-
--- the answer is that of the zone call
-zones : (c : tie.After-overlap) → rowsAnswer (c .overlap .result .number) (c .overlap .result .count) (c .overlap .result .rows) ≡ zonesCall (start (else1 c) .args .chart)
-unfolding levelsOf
-zones c =
-    let chart = start (else1 c) .args .chart in
-    c .overlap .ensures .0 (rangeOf (levelsOf chart)) (c .before .before .before .before .before .before .bigs-of .ensures .0) ∙ zones-good chart (good (else1 c))
-
--- the first rows are the chart's zones, and there are no more of them
-found : (c : tie.Else3) → let at-overlap = c .before .before in let l = levelsOf (start (else1 at-overlap) .args .chart) in Rows (at-overlap .overlap .result .count) (at-overlap .overlap .result .rows) (zonesRefusal l) (overlapZones l)
-found c = let at-overlap = c .before .before in zones-found _ (good (else1 at-overlap)) _ _ _ (zones at-overlap) (c .if3 .left)
+abbrev else1 : tie.After-bigs-of → tie.Else1
+else1 c = c .before .before .before .before .before .before .before .before .before .before .before .before .before
 
 bad-chart-requires : tie.Need-bad-chart-requires
 bad-chart-requires c κs = search needs
@@ -94,28 +83,67 @@ slice-aggregate-bigs-of-4 c = search needs
 slice-aggregate-bigs-of-5 : tie.Need-slice-aggregate-bigs-of-5
 slice-aggregate-bigs-of-5 c = search needs
 
+slice-aggregate-bigs-of-6 : tie.Need-slice-aggregate-bigs-of-6
+slice-aggregate-bigs-of-6 c = search needs
+
+slice-aggregate-bigs-of-7 : tie.Need-slice-aggregate-bigs-of-7
+slice-aggregate-bigs-of-7 c = search needs
+
 bigs-of-requires : tie.Need-bigs-of-requires
 bigs-of-requires c κs =
-    let n = counts (c .before .before .before .before .before .before .before .before .before .before .before) in
-    ((n .strokes, n .segments, n .bigs), (refl, refl, refl, refl, refl))
+    let n = counts (c .before .before .before .before .before .before .before .before .before .before .before .before) in
+    ((n .strokes, n .segments, n .bigs), (refl, refl, refl, refl, refl, refl, refl))
 
-overlap-requires : tie.Need-overlap-requires
-overlap-requires c κs =
-    let n = counts (c .before .before .before .before .before .before .before .before .before .before .before .before .before .before .before .before .before) in
-    (n .superiors, n .bigs)
+slice-aggregate-overlap-columns : tie.Need-slice-aggregate-overlap-columns
+slice-aggregate-overlap-columns c = search needs
+
+slice-aggregate-overlap-columns-2 : tie.Need-slice-aggregate-overlap-columns-2
+slice-aggregate-overlap-columns-2 c = search needs
+
+slice-aggregate-overlap-columns-3 : tie.Need-slice-aggregate-overlap-columns-3
+slice-aggregate-overlap-columns-3 c = search needs
+
+slice-aggregate-overlap-columns-4 : tie.Need-slice-aggregate-overlap-columns-4
+slice-aggregate-overlap-columns-4 c = search needs
+
+slice-aggregate-overlap-columns-5 : tie.Need-slice-aggregate-overlap-columns-5
+slice-aggregate-overlap-columns-5 c = search needs
+
+slice-aggregate-overlap-columns-6 : tie.Need-slice-aggregate-overlap-columns-6
+slice-aggregate-overlap-columns-6 c = search needs
+
+slice-aggregate-overlap-columns-7 : tie.Need-slice-aggregate-overlap-columns-7
+slice-aggregate-overlap-columns-7 c = search needs
+
+slice-aggregate-overlap-columns-8 : tie.Need-slice-aggregate-overlap-columns-8
+slice-aggregate-overlap-columns-8 c = search needs
+
+slice-aggregate-overlap-columns-9 : tie.Need-slice-aggregate-overlap-columns-9
+slice-aggregate-overlap-columns-9 c = search needs
+
+slice-aggregate-overlap-columns-10 : tie.Need-slice-aggregate-overlap-columns-10
+slice-aggregate-overlap-columns-10 c = search needs
+
+overlap-columns-requires : tie.Need-overlap-columns-requires
+overlap-columns-requires c κs =
+    let at-bigs = c .before .before .before .before .before .before .before .before .before .before .before .before .before .before .before .before .before in
+    let n = counts (else1 at-bigs) in
+    let bigs = at-bigs .bigs-of .ensures .0 in
+    ((n .superiors, n .bigs, bigs .by-way .long, bigs .by-start .long, bigs .by-end .long, search needs, search needs), (refl, refl, refl, refl, refl))
 
 refusal-requires-3 : tie.Need-refusal-requires-3
 refusal-requires-3 c κs = search needs
 
 returns-3 : tie.Need-returns-3
+unfolding levelsOf overlapZones
 returns-3 c =
-    let at-overlap = c .before .before .before in
+    let at-overlap = c .before .before .before .before .before .before .before in
+    let at-bigs = at-overlap .before .before .before .before .before .before .before .before .before .before .before .before .before .before .before .before .before .before in
+    let e1 = else1 at-bigs in
+    let l = levelsOf (start e1 .args .chart) in
+    let found = at-overlap .overlap-columns .ensures .1 (rangeOf l) (l .bigs) (at-bigs .bigs-of .ensures .0 .by-way) (at-bigs .bigs-of .ensures .1) in
     c .refusal3 .ensures
-    ∙ third-many _ (quotes (else1 at-overlap)) (good (else1 at-overlap)) (passed (else2 at-overlap)) _
-    (zones-refused _ (good (else1 at-overlap)) _ _ _ (zones at-overlap) (c .before .if3 .taken)) (c .before .if3 .taken)
-
-cast-n : tie.Need-cast-n
-cast-n c = search needs
+    ∙ third-many _ (quotes e1) (good e1) (passed (else2 at-bigs)) 11 (zones-many l (found .0 (c .before .if3 .taken))) (λ e. omega arith)
 
 slice-aggregate-marks-of : tie.Need-slice-aggregate-marks-of
 slice-aggregate-marks-of c = search needs
@@ -132,29 +160,55 @@ slice-aggregate-marks-of-4 c = search needs
 slice-aggregate-marks-of-5 : tie.Need-slice-aggregate-marks-of-5
 slice-aggregate-marks-of-5 c = search needs
 
+slice-aggregate-marks-of-6 : tie.Need-slice-aggregate-marks-of-6
+slice-aggregate-marks-of-6 c = search needs
+
+slice-aggregate-marks-of-7 : tie.Need-slice-aggregate-marks-of-7
+slice-aggregate-marks-of-7 c = search needs
+
+slice-aggregate-marks-of-8 : tie.Need-slice-aggregate-marks-of-8
+slice-aggregate-marks-of-8 c = search needs
+
+slice-aggregate-marks-of-9 : tie.Need-slice-aggregate-marks-of-9
+slice-aggregate-marks-of-9 c = search needs
+
+slice-aggregate-marks-of-10 : tie.Need-slice-aggregate-marks-of-10
+slice-aggregate-marks-of-10 c = search needs
+
 marks-of-requires : tie.Need-marks-of-requires
+unfolding levelsOf overlapZones
 marks-of-requires c κs =
-    let else3 = c .before .before .before .before .before .before .before in
-    let at-overlap = else3 .before .before in
-    let n = counts (else1 at-overlap) in
-    let fit = quotes-fit _ _ (passed (else2 at-overlap)) in
-    let bigs = at-overlap .before .before .before .before .before .before .bigs-of .ensures .1 in (
-      (at-overlap .overlap .ensures .1, n .superiors, n .bigs, fit .0, fit .1),
+    let else3 = c .before .before .before .before .before .before .before .before .before .before in
+    let at-overlap = else3 .before .before .before .before .before .before in
+    let at-bigs = at-overlap .before .before .before .before .before .before .before .before .before .before .before .before .before .before .before .before .before .before in
+    let e1 = else1 at-bigs in
+    let chart = start e1 .args .chart in
+    let l = levelsOf chart in
+    let n = counts e1 in
+    let fit = quotes-fit _ _ (passed (else2 at-bigs)) in
+    let bigs = at-bigs .bigs-of .ensures .0 in
+    let few = else3 .if3 .left in
+    let zones = at-overlap .overlap-columns .ensures .1 (rangeOf l) (l .bigs) (bigs .by-way) (at-bigs .bigs-of .ensures .1) .1 few in (
+      (few, n .superiors, n .bigs, fit .0, fit .1),
       (
-        (bigs .by-way .long, bigs .by-start .long, bigs .by-end .long, bigs .by-point .long, omega (arith, slice-aggregate-marks-of-5 c, n .bigs)),
-        zones-own _ (at-overlap .overlap .result .count) (at-overlap .overlap .result .rows) (found else3 .same),
+        (bigs .by-way .long, bigs .by-start .long, bigs .by-end .long, bigs .by-point .long, omega (arith, slice-aggregate-marks-of-10 c, n .bigs)),
+        (zones .by-owner .long, zones .by-start .long, zones .by-end .long, zones .by-low .long, zones .by-high .long, owners-below _ _ _ _ (zones-own chart) (zones .by-owner)),
       ),
     )
 
 returns-4 : tie.Need-returns-4
-unfolding levelsOf
+unfolding levelsOf overlapZones
 returns-4 c =
-    let else3 = c .before .before .before .before .before .before .before .before in
-    let at-overlap = else3 .before .before in
-    let e1 = else1 at-overlap in
-    let chart = start e1 .args .chart in
-    c .marks-of .ensures (levelsOf chart) (at-overlap .before .before .before .before .before .before .bigs-of .ensures .1) refl (found else3 .same)
-    ∙ third-given _ (quotes e1) (good e1) (passed (else2 at-overlap)) (found else3 .accepted)
+    let else3 = c .before .before .before .before .before .before .before .before .before .before .before in
+    let at-overlap = else3 .before .before .before .before .before .before in
+    let at-bigs = at-overlap .before .before .before .before .before .before .before .before .before .before .before .before .before .before .before .before .before .before in
+    let e1 = else1 at-bigs in
+    let l = levelsOf (start e1 .args .chart) in
+    let bigs = at-bigs .bigs-of .ensures .0 in
+    let few = else3 .if3 .left in
+    let zones = at-overlap .overlap-columns .ensures .1 (rangeOf l) (l .bigs) (bigs .by-way) (at-bigs .bigs-of .ensures .1) .1 few in
+    c .marks-of .ensures l bigs refl zones
+    ∙ third-given _ (quotes e1) (good e1) (passed (else2 at-bigs)) (zones-few l (omega (arith, few, column-length (λ (z : Zone). z .«sup_idx») _ _ _ (zones .by-owner))))
 
 pub bigseg-third-marks-all-zhongshu-spec : {M : Type 1} → statement M
 bigseg-third-marks-all-zhongshu-spec =
@@ -173,15 +227,31 @@ bigseg-third-marks-all-zhongshu-spec =
     slice-aggregate-bigs-of-3
     slice-aggregate-bigs-of-4
     slice-aggregate-bigs-of-5
+    slice-aggregate-bigs-of-6
+    slice-aggregate-bigs-of-7
     bigs-of-requires
-    overlap-requires
+    slice-aggregate-overlap-columns
+    slice-aggregate-overlap-columns-2
+    slice-aggregate-overlap-columns-3
+    slice-aggregate-overlap-columns-4
+    slice-aggregate-overlap-columns-5
+    slice-aggregate-overlap-columns-6
+    slice-aggregate-overlap-columns-7
+    slice-aggregate-overlap-columns-8
+    slice-aggregate-overlap-columns-9
+    slice-aggregate-overlap-columns-10
+    overlap-columns-requires
     refusal-requires-3
     returns-3
-    cast-n
     slice-aggregate-marks-of
     slice-aggregate-marks-of-2
     slice-aggregate-marks-of-3
     slice-aggregate-marks-of-4
     slice-aggregate-marks-of-5
+    slice-aggregate-marks-of-6
+    slice-aggregate-marks-of-7
+    slice-aggregate-marks-of-8
+    slice-aggregate-marks-of-9
+    slice-aggregate-marks-of-10
     marks-of-requires
     returns-4)

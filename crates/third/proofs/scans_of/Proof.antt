@@ -3,24 +3,11 @@ use native.Mathlib.Omega.{arith}
 use mathlib.Core.Path.{_≡_}
 use lib.ListN.{length}
 use borrow.Author.Needs.{needs}
-use Rattle.scan.proofs.Zones.{owners-below}
 use Rattle.third.proofs.scans_of.Statement.{statement}
 use Rattle.third.proofs.scans_of.Tie as tie
 
 ends-long : (c : tie.After-superior-ends) → length (c .superior-ends .result) ≡ 256
 ends-long c = search needs
-
-slice-aggregate-zone-columns : tie.Need-slice-aggregate-zone-columns
-slice-aggregate-zone-columns c = search needs
-
-slice-aggregate-zone-columns-2 : tie.Need-slice-aggregate-zone-columns-2
-slice-aggregate-zone-columns-2 c = search needs
-
-slice-aggregate-zone-columns-3 : tie.Need-slice-aggregate-zone-columns-3
-slice-aggregate-zone-columns-3 c = search needs
-
-zone-columns-requires : tie.Need-zone-columns-requires
-zone-columns-requires c κs = search needs
 
 ways-of-requires : tie.Need-ways-of-requires
 ways-of-requires c κs = search needs
@@ -34,29 +21,12 @@ slice-aggregate-zone-scans c = search needs
 slice-aggregate-zone-scans-2 : tie.Need-slice-aggregate-zone-scans-2
 slice-aggregate-zone-scans-2 c = search needs
 
-slice-aggregate-zone-scans-3 : tie.Need-slice-aggregate-zone-scans-3
-slice-aggregate-zone-scans-3 c = search needs
-
-slice-aggregate-zone-scans-4 : tie.Need-slice-aggregate-zone-scans-4
-slice-aggregate-zone-scans-4 c = search needs
-
-slice-aggregate-zone-scans-5 : tie.Need-slice-aggregate-zone-scans-5
-slice-aggregate-zone-scans-5 c = search needs
-
 zone-scans-requires : tie.Need-zone-scans-requires
 zone-scans-requires c κs =
-    let at-ends = c .before .before .before .before .before .before .before .before in
-    let at-columns = at-ends .before .before .before .before .before .before .before .before .before in
-    let s = at-columns .before .before .before .before .before .before .before .before .before .before .before .before .before in
-    let zones = at-columns .zone-columns .ensures in
+    let at-ends = c .before .before .before .before .before in
+    let s = at-ends .before .before .before .before .before .before .before .before .before .before in
     let few = s .pre .0 in
-    let long = s .pre .1 .0 in (
-      (few .0, few .1, few .2, few .3, at-ends .before .ways-of .ensures .long, omega (arith, ends-long at-ends, few .1)),
-      (
-        (zones .by-owner .long, zones .by-start .long, zones .by-end .long, owners-below _ _ _ _ (s .pre .1 .1) (zones .by-owner)),
-        (long .0, long .1, long .2),
-      ),
-    )
+    ((few .0, few .1, few .2, few .3, at-ends .before .ways-of .ensures .long, omega (arith, ends-long at-ends, few .1)), (s .pre .1 .0, s .pre .1 .1))
 
 same-length : tie.Need-same-length
 same-length c = search needs
@@ -67,41 +37,23 @@ same-length-2 c = search needs
 same-length-3 : tie.Need-same-length-3
 same-length-3 c = search needs
 
-same-length-4 : tie.Need-same-length-4
-same-length-4 c = search needs
-
-same-length-5 : tie.Need-same-length-5
-same-length-5 c = search needs
-
 returns : tie.Need-returns
 returns c =
     let at-scans = c .before .before .before .before .before .before in
-    let at-ends = at-scans .before .before .before .before .before .before .before .before .before in
-    let zones = at-ends .before .before .before .before .before .before .before .before .before .zone-columns .ensures in (
-      (zones .by-low, zones .by-high),
-      λ l level starts points.
-          at-scans .zone-scans .ensures l _ level starts (rw level at (at-ends .before .ways-of .ensures)) (rw level at (at-ends .superior-ends .ensures l points)) (zones .by-owner) (zones .by-start) (zones .by-end),
-    )
+    let at-ends = at-scans .before .before .before .before .before .before in
+    λ l zs level starts points owner from to.
+    at-scans .zone-scans .ensures l zs level starts (rw level at (at-ends .before .ways-of .ensures)) (rw level at (at-ends .superior-ends .ensures l points)) owner from to
 
 pub scans-of-spec : {M : Type 1} → statement M
 scans-of-spec =
     tie.close
     (tie.spec
-    slice-aggregate-zone-columns
-    slice-aggregate-zone-columns-2
-    slice-aggregate-zone-columns-3
-    zone-columns-requires
     ways-of-requires
     superior-ends-requires
     slice-aggregate-zone-scans
     slice-aggregate-zone-scans-2
-    slice-aggregate-zone-scans-3
-    slice-aggregate-zone-scans-4
-    slice-aggregate-zone-scans-5
     zone-scans-requires
     same-length
     same-length-2
     same-length-3
-    same-length-4
-    same-length-5
     returns)

@@ -26,7 +26,7 @@ use Rattle.third.proofs.zone_marks.Tie as tie
 
 abbrev Inv-loop : tie.InvT-loop
 Inv-loop ways ends m sides froms limits zds zgs n highs lows keys₀ bars₀ prices₀ grounds₀ zoned₀ count₀ i₀ keys bars prices grounds zoned count i =
-    (count ≤ i) × (i ≤ n) × (length keys ≡ 512) × (length bars ≡ 512) × (length prices ≡ 512) × (length grounds ≡ 512) × (length zoned ≡ 512)
+    (count ≤ i) × (i ≤ n) × (length keys ≡ length keys₀) × (length bars ≡ 512) × (length prices ≡ 512) × (length grounds ≡ 512) × (length zoned ≡ 512)
     × ((c : Levels) (zs : List Zone) → Column (λ (t : Triple). t .direction) m ways (c .bigs) → Column endOf m ends (map (rangeOf c) (c .bigs))
     → Scanning c zs n sides froms limits → Column (λ (z : Zone). z .zd) n zds zs → Column (λ (z : Zone). z .zg) n zgs zs
     → (done : List ThirdMark) × Marked count keys bars prices grounds zoned (foldl addThird [] done)
@@ -40,7 +40,7 @@ loop-holds c =
     let long = c .before .before .before .before .before .before .before .before .before .before .before .before .before .before .pre .1 .1 in (
       omega arith,
       omega arith,
-      long .0,
+      refl,
       long .1,
       long .2,
       long .3,
@@ -132,7 +132,7 @@ put-requires c κs =
     let start = head .before .before .before .before .before .before .before .before .before .before .before .before .before .before .before in
     let inv = head .loop .inv in
     let room : head .loop .count < 512 = omega (arith, inv, c .before .before .before .before .before .before .before .before .before .before .before .before .before .before .before .loop-test .taken, start .pre .0) in
-    (omega (arith, room, inv), omega (arith, room, inv), omega (arith, room, inv), omega (arith, room, inv), omega (arith, room, inv))
+    (omega (arith, room, inv, start .pre .1 .1 .0), omega (arith, room, inv), omega (arith, room, inv), omega (arith, room, inv), omega (arith, room, inv))
 
 loop-less-2 : tie.Need-loop-less-2 Inv-loop μ-loop
 loop-less-2 c = search needs
@@ -185,7 +185,7 @@ returns : tie.Need-returns Inv-loop μ-loop
 returns c =
     let head = c .before in
     let inv = head .loop .inv in (
-      omega (arith, inv),
+      (omega (arith, inv), inv .2, inv .3, inv .4, inv .5, inv .6),
       λ l zs w e s lo hi.
           let so-far = inv .7 l zs w e s lo hi in
           rw (← zones-none l _ zs _ (head .loop .i) (so-far .0) _ (column-length (λ (y : Zone). y .zd) _ _ zs lo) (so-far .2) (c .loop-test .left)) (so-far .1),

@@ -2,20 +2,19 @@
 use native.Mathlib.Omega.{arith}
 use mathlib.Core.Path.{_≡_, refl, sym, _∙_}
 use mathlib.Core.Bool.{false}
-use lib.ListN.{take}
 use borrow.Author.Needs.{needs}
 use Rattle.chart.specs.declared.Chart.{Chart}
-use Rattle.rules.specs.Answer.{rowsAnswer}
+use Rattle.chart.specs.declared.Zone.{Zone}
 use Rattle.rules.specs.Records.{levelsOf, Quotes}
 use Rattle.rules.specs.Ranges.{rangeOf}
 use Rattle.rules.specs.Zones.{overlapZones}
-use Rattle.rules.specs.Refusals.{badChart, endsOutside, zonesRefusal}
-use Rattle.rules.specs.Calls.{zonesCall}
-use Rattle.laws.proofs.Answers.{Counted, counted, Rows}
-use Rattle.zones.proofs.Call.{zones-good}
+use Rattle.rules.specs.Refusals.{badChart, endsOutside}
+use Rattle.laws.proofs.Answers.{Counted, counted}
+use Rattle.columns.proofs.Fill.{column-length}
 use Rattle.scan.specs.Scan.{quotesRefusal}
-use Rattle.scan.proofs.Quotes.{quotes-fit, zones-refused, zones-found}
-use Rattle.third.proofs.Call.{zones-own}
+use Rattle.scan.proofs.Quotes.{quotes-fit}
+use Rattle.scan.proofs.Zones.{owners-below}
+use Rattle.third.proofs.Call.{zones-own, zones-many, zones-few}
 use Rattle.three_n.proofs.Parts.{ends-inside}
 use Rattle.three_n.proofs.Refused.{n-bad, n-quotes, n-outside, n-many, n-given}
 use Rattle.three_n.proofs.bigseg_3n_marks_all_zhongshu.Statement.{statement}
@@ -49,26 +48,11 @@ within : (c : tie.Else3) → endsOutside (levelsOf (start (else1 (else2 c)) .arg
 unfolding endsOutside levelsOf
 within c = sym (c .before .ends-outside .ensures) ∙ c .if3 .left
 
-abbrev else3 : tie.After-overlap → tie.Else3
-else3 c = c .before .before .before .before .before .before .before .before .before .before .before .before .before .before .before .before
+abbrev else3 : tie.After-bigs-of → tie.Else3
+else3 c = c .before .before .before .before .before .before .before .before .before .before .before
 
-abbrev chart-of : tie.After-overlap → Chart
+abbrev chart-of : tie.After-bigs-of → Chart
 chart-of c = start (else1 (else2 (else3 c))) .args .chart
-
-superiors-are : (c : Chart) → take (c .«superior_count») (c .superiors) ≡ levelsOf c .superiors
-unfolding levelsOf
-superiors-are c = refl
-
--- the answer is that of the zone call
-zones : (c : tie.After-overlap) → rowsAnswer (c .overlap .result .number) (c .overlap .result .count) (c .overlap .result .rows) ≡ zonesCall (chart-of c)
-unfolding levelsOf
-zones c =
-    c .overlap .ensures .0 (rangeOf (levelsOf (chart-of c))) (c .before .before .before .before .before .before .bigs-of .ensures .0)
-    ∙ zones-good (chart-of c) (good (else1 (else2 (else3 c))))
-
--- the first rows are the chart's zones, and there are no more of them
-found : (c : tie.Else4) → Rows (c .before .before .overlap .result .count) (c .before .before .overlap .result .rows) (zonesRefusal (levelsOf (chart-of (c .before .before)))) (overlapZones (levelsOf (chart-of (c .before .before))))
-found c = let at-overlap = c .before .before in zones-found _ (good (else1 (else2 (else3 at-overlap)))) _ _ _ (zones at-overlap) (c .if4 .left)
 
 bad-chart-requires : tie.Need-bad-chart-requires
 bad-chart-requires c κs = search needs
@@ -130,29 +114,68 @@ slice-aggregate-bigs-of-4 c = search needs
 slice-aggregate-bigs-of-5 : tie.Need-slice-aggregate-bigs-of-5
 slice-aggregate-bigs-of-5 c = search needs
 
+slice-aggregate-bigs-of-6 : tie.Need-slice-aggregate-bigs-of-6
+slice-aggregate-bigs-of-6 c = search needs
+
+slice-aggregate-bigs-of-7 : tie.Need-slice-aggregate-bigs-of-7
+slice-aggregate-bigs-of-7 c = search needs
+
 bigs-of-requires : tie.Need-bigs-of-requires
 bigs-of-requires c κs =
-    let n = counts (else1 (else2 (c .before .before .before .before .before .before .before .before .before))) in
-    ((n .strokes, n .segments, n .bigs), (refl, refl, refl, refl, refl))
+    let n = counts (else1 (else2 (c .before .before .before .before .before .before .before .before .before .before))) in
+    ((n .strokes, n .segments, n .bigs), (refl, refl, refl, refl, refl, refl, refl))
 
-overlap-requires : tie.Need-overlap-requires
-overlap-requires c κs =
-    let n = counts (else1 (else2 (c .before .before .before .before .before .before .before .before .before .before .before .before .before .before .before))) in
-    (n .superiors, n .bigs)
+slice-aggregate-overlap-columns : tie.Need-slice-aggregate-overlap-columns
+slice-aggregate-overlap-columns c = search needs
+
+slice-aggregate-overlap-columns-2 : tie.Need-slice-aggregate-overlap-columns-2
+slice-aggregate-overlap-columns-2 c = search needs
+
+slice-aggregate-overlap-columns-3 : tie.Need-slice-aggregate-overlap-columns-3
+slice-aggregate-overlap-columns-3 c = search needs
+
+slice-aggregate-overlap-columns-4 : tie.Need-slice-aggregate-overlap-columns-4
+slice-aggregate-overlap-columns-4 c = search needs
+
+slice-aggregate-overlap-columns-5 : tie.Need-slice-aggregate-overlap-columns-5
+slice-aggregate-overlap-columns-5 c = search needs
+
+slice-aggregate-overlap-columns-6 : tie.Need-slice-aggregate-overlap-columns-6
+slice-aggregate-overlap-columns-6 c = search needs
+
+slice-aggregate-overlap-columns-7 : tie.Need-slice-aggregate-overlap-columns-7
+slice-aggregate-overlap-columns-7 c = search needs
+
+slice-aggregate-overlap-columns-8 : tie.Need-slice-aggregate-overlap-columns-8
+slice-aggregate-overlap-columns-8 c = search needs
+
+slice-aggregate-overlap-columns-9 : tie.Need-slice-aggregate-overlap-columns-9
+slice-aggregate-overlap-columns-9 c = search needs
+
+slice-aggregate-overlap-columns-10 : tie.Need-slice-aggregate-overlap-columns-10
+slice-aggregate-overlap-columns-10 c = search needs
+
+overlap-columns-requires : tie.Need-overlap-columns-requires
+overlap-columns-requires c κs =
+    let at-bigs = c .before .before .before .before .before .before .before .before .before .before .before .before .before .before .before .before .before in
+    let n = counts (else1 (else2 (else3 at-bigs))) in
+    let bigs = at-bigs .bigs-of .ensures .0 in
+    ((n .superiors, n .bigs, bigs .by-way .long, bigs .by-start .long, bigs .by-end .long, search needs, search needs), (refl, refl, refl, refl, refl))
 
 refusal-requires-4 : tie.Need-refusal-requires-4
 refusal-requires-4 c κs = search needs
 
 returns-4 : tie.Need-returns-4
+unfolding levelsOf overlapZones
 returns-4 c =
-    let at-overlap = c .before .before .before in
-    let e3 = else3 at-overlap in
+    let at-overlap = c .before .before .before .before .before .before .before in
+    let at-bigs = at-overlap .before .before .before .before .before .before .before .before .before .before .before .before .before .before .before .before .before .before in
+    let e3 = else3 at-bigs in
     let e1 = else1 (else2 e3) in
+    let l = levelsOf (chart-of at-bigs) in
+    let found = at-overlap .overlap-columns .ensures .1 (rangeOf l) (l .bigs) (at-bigs .bigs-of .ensures .0 .by-way) (at-bigs .bigs-of .ensures .1) in
     c .refusal4 .ensures
-    ∙ n-many _ (quotes e1) (good e1) (passed (else2 e3)) (within e3) _ (zones-refused _ (good e1) _ _ _ (zones at-overlap) (c .before .if4 .taken)) (c .before .if4 .taken)
-
-cast-n : tie.Need-cast-n
-cast-n c = search needs
+    ∙ n-many _ (quotes e1) (good e1) (passed (else2 e3)) (within e3) 11 (zones-many l (found .0 (c .before .if4 .taken))) (λ e. omega arith)
 
 slice-aggregate-marks-of : tie.Need-slice-aggregate-marks-of
 slice-aggregate-marks-of c = search needs
@@ -169,39 +192,60 @@ slice-aggregate-marks-of-4 c = search needs
 slice-aggregate-marks-of-5 : tie.Need-slice-aggregate-marks-of-5
 slice-aggregate-marks-of-5 c = search needs
 
+slice-aggregate-marks-of-6 : tie.Need-slice-aggregate-marks-of-6
+slice-aggregate-marks-of-6 c = search needs
+
+slice-aggregate-marks-of-7 : tie.Need-slice-aggregate-marks-of-7
+slice-aggregate-marks-of-7 c = search needs
+
+slice-aggregate-marks-of-8 : tie.Need-slice-aggregate-marks-of-8
+slice-aggregate-marks-of-8 c = search needs
+
+slice-aggregate-marks-of-9 : tie.Need-slice-aggregate-marks-of-9
+slice-aggregate-marks-of-9 c = search needs
+
+slice-aggregate-marks-of-10 : tie.Need-slice-aggregate-marks-of-10
+slice-aggregate-marks-of-10 c = search needs
+
 marks-of-requires : tie.Need-marks-of-requires
+unfolding levelsOf overlapZones
 marks-of-requires c κs =
-    let e4 = c .before .before .before .before .before .before .before in
-    let at-overlap = e4 .before .before in
-    let e3 = else3 at-overlap in
-    let e1 = else1 (else2 e3) in
-    let n = counts e1 in
+    let e4 = c .before .before .before .before .before .before .before .before .before .before in
+    let at-overlap = e4 .before .before .before .before .before .before in
+    let at-bigs = at-overlap .before .before .before .before .before .before .before .before .before .before .before .before .before .before .before .before .before .before in
+    let e3 = else3 at-bigs in
+    let chart = chart-of at-bigs in
+    let l = levelsOf chart in
+    let n = counts (else1 (else2 e3)) in
     let fit = quotes-fit _ _ (passed (else2 e3)) in
-    let bigs = at-overlap .before .before .before .before .before .before .bigs-of .ensures .1 in (
-      (at-overlap .overlap .ensures .1, n .superiors, n .bigs, fit .0, fit .1),
+    let bigs = at-bigs .bigs-of .ensures .0 in
+    let few = e4 .if4 .left in
+    let zones = at-overlap .overlap-columns .ensures .1 (rangeOf l) (l .bigs) (bigs .by-way) (at-bigs .bigs-of .ensures .1) .1 few in (
+      (few, n .superiors, n .bigs, fit .0, fit .1),
       (
-        (bigs .by-way .long, bigs .by-start .long, bigs .by-end .long, bigs .by-point .long, omega (arith, slice-aggregate-marks-of-5 c, n .bigs)),
+        (bigs .by-way .long, bigs .by-start .long, bigs .by-end .long, bigs .by-point .long, omega (arith, slice-aggregate-marks-of-10 c, n .bigs)),
         (
-          zones-own _ (at-overlap .overlap .result .count) (at-overlap .overlap .result .rows) (found e4 .same),
-          (
-            levelsOf (chart-of at-overlap),
-            record { bigs = bigs; level = superiors-are (chart-of at-overlap); zones-are = found e4 .same; inside = ends-inside _ _ (within e3) (fit .2) },
-          ),
+          (zones .by-owner .long, zones .by-start .long, zones .by-end .long, zones .by-low .long, zones .by-high .long, owners-below _ _ _ _ (zones-own chart) (zones .by-owner)),
+          (l, record { bigs = bigs; level = refl; zones = zones; inside = ends-inside l _ (within e3) (fit .2) }),
         ),
       ),
     )
 
 returns-5 : tie.Need-returns-5
+unfolding levelsOf overlapZones
 returns-5 c =
-    let e4 = c .before .before .before .before .before .before .before .before in
-    let at-overlap = e4 .before .before in
-    let e3 = else3 at-overlap in
+    let e4 = c .before .before .before .before .before .before .before .before .before .before .before in
+    let at-overlap = e4 .before .before .before .before .before .before in
+    let at-bigs = at-overlap .before .before .before .before .before .before .before .before .before .before .before .before .before .before .before .before .before .before in
+    let e3 = else3 at-bigs in
     let e1 = else1 (else2 e3) in
+    let l = levelsOf (chart-of at-bigs) in
     let fit = quotes-fit _ _ (passed (else2 e3)) in
-    let bigs = at-overlap .before .before .before .before .before .before .bigs-of .ensures .1 in
-    c .marks-of .ensures (levelsOf (chart-of at-overlap))
-    (record { bigs = bigs; level = superiors-are (chart-of at-overlap); zones-are = found e4 .same; inside = ends-inside _ _ (within e3) (fit .2) })
-    ∙ n-given _ (quotes e1) (good e1) (passed (else2 e3)) (within e3) (found e4 .accepted)
+    let bigs = at-bigs .bigs-of .ensures .0 in
+    let few = e4 .if4 .left in
+    let zones = at-overlap .overlap-columns .ensures .1 (rangeOf l) (l .bigs) (bigs .by-way) (at-bigs .bigs-of .ensures .1) .1 few in
+    c .marks-of .ensures l (record { bigs = bigs; level = refl; zones = zones; inside = ends-inside l _ (within e3) (fit .2) })
+    ∙ n-given _ (quotes e1) (good e1) (passed (else2 e3)) (within e3) (zones-few l (omega (arith, few, column-length (λ (z : Zone). z .«sup_idx») _ _ _ (zones .by-owner))))
 
 pub bigseg-3n-marks-all-zhongshu-spec : {M : Type 1} → statement M
 bigseg-3n-marks-all-zhongshu-spec =
@@ -224,15 +268,31 @@ bigseg-3n-marks-all-zhongshu-spec =
     slice-aggregate-bigs-of-3
     slice-aggregate-bigs-of-4
     slice-aggregate-bigs-of-5
+    slice-aggregate-bigs-of-6
+    slice-aggregate-bigs-of-7
     bigs-of-requires
-    overlap-requires
+    slice-aggregate-overlap-columns
+    slice-aggregate-overlap-columns-2
+    slice-aggregate-overlap-columns-3
+    slice-aggregate-overlap-columns-4
+    slice-aggregate-overlap-columns-5
+    slice-aggregate-overlap-columns-6
+    slice-aggregate-overlap-columns-7
+    slice-aggregate-overlap-columns-8
+    slice-aggregate-overlap-columns-9
+    slice-aggregate-overlap-columns-10
+    overlap-columns-requires
     refusal-requires-4
     returns-4
-    cast-n
     slice-aggregate-marks-of
     slice-aggregate-marks-of-2
     slice-aggregate-marks-of-3
     slice-aggregate-marks-of-4
     slice-aggregate-marks-of-5
+    slice-aggregate-marks-of-6
+    slice-aggregate-marks-of-7
+    slice-aggregate-marks-of-8
+    slice-aggregate-marks-of-9
+    slice-aggregate-marks-of-10
     marks-of-requires
     returns-5)
