@@ -263,19 +263,23 @@ def many_thirds():
     t = one_each(s)
     return Chart(s, t, t, [(1, 256, 256)] + [(0, j, 255) for j in range(255)], [(4.0 - i, 8.0 + i) for i in range(256)])
 
-def full(superiors, seed=1, bars=0):
-    """512 strokes, 256 segments of two, 256 bigs of one, and this many bars"""
+def full(superiors, seed=1, bars=0, first=4):
+    """512 strokes, 256 segments of two, 256 bigs of one, and this many bars; the first stroke ends at the bar `first`, each other four behind"""
     r = random.Random(seed)
     price, pts = 100.0, [(0, 100.0)]
     for i in range(512):
         price += (r.randrange(50, 1050) / 100) * (1 if i % 2 == 0 else -1)
-        pts.append((4 * i + 4, price))
+        pts.append((4 * i + first, price))
     s = turns(pts)
     return Chart(s, [(1 - i % 2, 2 * i, 2 * i + 1) for i in range(256)], [(1 - i % 2, i, i) for i in range(256)], superiors, [(r.choice(pts)[1], r.choice(pts)[1]) for _ in range(bars)])
 
+def alternating(n, width, first=0):
+    """n superiors of this many bigs each from the big `first` on, up first"""
+    return [((i + 1) % 2, first + width * i, first + width * i + width - 1) for i in range(n)]
+
 SHAPES = {
     "one long": [(1, 0, 255)],
-    "short": [((i + 1) % 2, 4 * i, 4 * i + 3) for i in range(64)],
+    "short": alternating(64, 4),
     "of one": [(i % 2, i, i) for i in range(256)],
 }
 

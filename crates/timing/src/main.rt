@@ -1,0 +1,160 @@
+// Makes one call many times on the chart file on standard input, for the script oracle/timing to time, and prints a sum of the answers.
+// Arguments: the call (zones, third or threen) and how many times it is made. Of this program only safety is proved.
+use chart::Chart;
+ghost use Prim.Native.Nat.{_<_, _≤_};
+
+// The call that an argument names.
+enum Call {
+    Zones,
+    Third,
+    Threen,
+    Unknown,
+}
+
+// An argument of at most eight bytes, with zeros behind it.
+fn word(i: usize) -> [u8; 8] {
+    let mut bytes = [0u8; 8];
+    os::arg(i, &mut bytes);
+    bytes
+}
+
+fn same(a: [u8; 8], b: [u8; 8]) -> bool {
+    for i in 0..8 {
+        if a[i] != b[i] {
+            return false;
+        }
+    }
+    true
+}
+
+fn call_of(name: [u8; 8]) -> Call {
+    if same(name, [b'z', b'o', b'n', b'e', b's', 0, 0, 0]) {
+        Call::Zones
+    } else if same(name, [b't', b'h', b'i', b'r', b'd', 0, 0, 0]) {
+        Call::Third
+    } else if same(name, [b't', b'h', b'r', b'e', b'e', b'n', 0, 0]) {
+        Call::Threen
+    } else {
+        Call::Unknown
+    }
+}
+
+// A decimal digit's value; 0 of any other byte.
+fn value(byte: u8) -> u32
+    ensures { λ r. ⌜ r ≤ 9 ⌝ }
+{
+    if byte < 48 {
+        0
+    } else if byte < 58 {
+        (byte - 48) as u32
+    } else {
+        0
+    }
+}
+
+// The number before the first zero.
+fn number(digits: [u8; 8]) -> u32 {
+    let mut n = 0u32;
+    for i in 0..8 {
+        if digits[i] == 0 {
+            return n;
+        }
+        n = n % 10000000 * 10 + value(digits[i]);
+    }
+    n
+}
+
+// The stroke that turn i changes: not the first of a big of a full chart, and in a small one perhaps behind the last.
+fn place(i: u32) -> usize
+    ensures { λ r. ⌜ r < 512 ⌝ }
+{
+    (i % 256 * 2 + 1) as usize
+}
+
+// The sum, modulo 65,536, with the number of rows of an answer and a bar of its middle row, so that the compiler leaves no row out.
+fn added(sum: u16, count: u16, bar: u16) -> u16 {
+    if count == 0 {
+        return sum;
+    }
+    std::num::wrapping_add_u16(sum, std::num::wrapping_add_u16(count, bar))
+}
+
+// The sum of so many turns of a call, a function for each, so that no call is merged with another. A turn changes the start price of a
+// stroke, so that none is taken out of the loop, and hands over the chart by value.
+fn zones_sum(start: Chart, turns: u32) -> u16 {
+    let mut chart = start;
+    let mut sum = 0u16;
+    for i in 0..turns {
+        let k = place(i);
+        chart.strokes[k].start_price = chart.strokes[k].start_price + 0.25;
+        let found = zones::detect_bigseg_zhongshus_by_overlap(chart);
+        let m = printing::shown(found.count, 256) / 2;
+        sum = added(sum, found.count, found.rows[m].start_bar);
+    }
+    sum
+}
+
+fn third_sum(start: Chart, highs: &[f64], lows: &[f64], turns: u32) -> u16 {
+    let mut chart = start;
+    let mut sum = 0u16;
+    for i in 0..turns {
+        let k = place(i);
+        chart.strokes[k].start_price = chart.strokes[k].start_price + 0.25;
+        let found = third::bigseg_third_marks_all_zhongshu(chart, highs, lows);
+        let m = printing::shown(found.count, 512) / 2;
+        sum = added(sum, found.count, found.rows[m].bar_index);
+    }
+    sum
+}
+
+fn threen_sum(start: Chart, highs: &[f64], lows: &[f64], turns: u32) -> u16 {
+    let mut chart = start;
+    let mut sum = 0u16;
+    for i in 0..turns {
+        let k = place(i);
+        chart.strokes[k].start_price = chart.strokes[k].start_price + 0.25;
+        let found = three_n::bigseg_3n_marks_all_zhongshu(chart, highs, lows);
+        let m = printing::shown(found.count, 512) / 2;
+        sum = added(sum, found.count, found.rows[m].bar_index);
+    }
+    sum
+}
+
+fn sum_of(call: Call, chart: Chart, highs: &[f64], lows: &[f64], turns: u32) -> u16 {
+    match call {
+        Call::Zones => zones_sum(chart, turns),
+        Call::Third => third_sum(chart, highs, lows, turns),
+        Call::Threen => threen_sum(chart, highs, lows, turns),
+        Call::Unknown => 0,
+    }
+}
+
+// The places that a file's bars fill: as many as there are bars, and no more than an array has.
+fn filled(bars: usize) -> usize
+    ensures { λ r. ⌜ r ≤ 2048 ⌝ }
+{
+    if bars < 2048 { bars } else { 2048 }
+}
+
+// The sum of the turns on a chart file, or `refused N at P` alone.
+fn print_sum(file: &[u8], call: Call, turns: u32) {
+    let mut highs = [0.0; 2048];
+    let mut lows = [0.0; 2048];
+    let read = chart_read::read_chart(file, &mut highs, &mut lows);
+    if read.number != 0 {
+        printing::print_refused(read.number, read.place);
+        return;
+    }
+    let n = filled(read.bars);
+    let chart = read.chart;
+    let sum = sum_of(call, chart, &highs[..n], &lows[..n], turns);
+    printing::print_head(b"SUM", 0, sum);
+}
+
+fn main() {
+    let mut buffer = io::large_buffer();
+    let n = io::read_full(0, &mut buffer);
+    let call = call_of(word(1));
+    let turns = number(word(2));
+    print_sum(&buffer[..n], call, turns);
+}
