@@ -1,4 +1,2 @@
-pub mod ZoneMarks
-pub mod Anchors
-pub mod Repeats
+pub mod Rows
 pub mod Call

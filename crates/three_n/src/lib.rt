@@ -145,7 +145,7 @@ fn marks_of(
     let mut sides = [0u8; 256];
     let mut froms = [0u16; 256];
     let mut limits = [0u32; 256];
-    third::scans_of(
+    mark_columns::scans_of(
         owners,
         zone_starts,
         zone_ends,
@@ -167,7 +167,7 @@ fn marks_of(
     let mut prices = [0.0; 512];
     let mut grounds = [0.0; 512];
     let mut zoned = [false; 512];
-    let zeros = third::marks_in(
+    let zeros = mark_columns::marks_in(
         &sides,
         &froms,
         &limits,

@@ -13,7 +13,8 @@ use Rattle.columns.proofs.Fill.{column-length}
 use Rattle.scan.specs.Scan.{quotesRefusal}
 use Rattle.scan.proofs.Quotes.{quotes-fit}
 use Rattle.scan.proofs.Zones.{owners-below}
-use Rattle.third.proofs.Call.{third-bad, third-quotes, third-many, third-given, zones-own, zones-many, zones-few}
+use Rattle.mark_columns.proofs.Whole.{zones-own, zones-many, zones-few}
+use Rattle.third.proofs.Call.{third-bad, third-quotes, third-many, third-given}
 use Rattle.third.proofs.bigseg_third_marks_all_zhongshu.Statement.{statement}
 use Rattle.third.proofs.bigseg_third_marks_all_zhongshu.Tie as tie
 

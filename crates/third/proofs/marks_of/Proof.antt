@@ -9,7 +9,7 @@ use Rattle.columns.proofs.Fill.{column-length}
 use Rattle.levels.proofs.Read.{no-triple}
 use Rattle.rules.specs.Marks.{anchorThird}
 use Rattle.hits.proofs.Ends.{anchors-by}
-use Rattle.third.proofs.Call.{marks-both}
+use Rattle.mark_columns.proofs.Whole.{marks-both}
 use Rattle.third.proofs.marks_of.Statement.{statement}
 use Rattle.third.proofs.marks_of.Tie as tie
 

@@ -6,8 +6,8 @@ use mathlib.Core.List.{List}
 use lib.ListN.{length, take, length-set}
 use borrow.Author.Needs.{needs}
 use Rattle.chart.specs.declared.ThirdMark.{ThirdMark}
-use Rattle.third.specs.Third.{Marked}
-use Rattle.third.proofs.Repeats.{rows-next, rows-all}
+use Rattle.mark_columns.specs.Third.{Marked}
+use Rattle.third.proofs.Rows.{rows-next, rows-all}
 use Rattle.third.proofs.rows_of.Statement.{statement}
 use Rattle.third.proofs.rows_of.Tie as tie
 

@@ -14,7 +14,7 @@ use Rattle.columns.proofs.Fill.{column-length}
 use Rattle.scan.specs.Scan.{quotesRefusal}
 use Rattle.scan.proofs.Quotes.{quotes-fit}
 use Rattle.scan.proofs.Zones.{owners-below}
-use Rattle.third.proofs.Call.{zones-own, zones-many, zones-few}
+use Rattle.mark_columns.proofs.Whole.{zones-own, zones-many, zones-few}
 use Rattle.three_n.proofs.Parts.{ends-inside}
 use Rattle.three_n.proofs.Refused.{n-bad, n-quotes, n-outside, n-many, n-given}
 use Rattle.three_n.proofs.bigseg_3n_marks_all_zhongshu.Statement.{statement}

@@ -10,7 +10,7 @@ use Rattle.columns.proofs.Fill.{column-length}
 use Rattle.numbering.specs.Rows.{rowKey}
 use Rattle.levels.proofs.Read.{no-triple}
 use Rattle.hits.proofs.Ends.{anchors-by}
-use Rattle.third.proofs.Call.{marks-both}
+use Rattle.mark_columns.proofs.Whole.{marks-both}
 use Rattle.three_n.proofs.Parts.{ready}
 use Rattle.three_n.proofs.marks_of.Statement.{statement}
 use Rattle.three_n.proofs.marks_of.Tie as tie

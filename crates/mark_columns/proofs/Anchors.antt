@@ -23,7 +23,7 @@ use Rattle.hits.specs.declared.Price.the-variants as price
 use Rattle.hits.specs.Found.{hitBar, Priced, priceOf}
 use Rattle.hits.proofs.Hits.{hit-first, hit-later}
 use Rattle.hits.proofs.Ends.{barsIn, ends-none, ends-over, ends-next, given, given-none, given-missing, given-there}
-use Rattle.third.specs.Third.{markOf}
+use Rattle.mark_columns.specs.Third.{markOf}
 
 -- ---- the first hit: the bigs from place k on are left to look at
 

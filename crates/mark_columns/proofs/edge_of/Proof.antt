@@ -1,7 +1,7 @@
--- `third::edge_of` meets its contract. Assumes nothing.
+-- `mark_columns::edge_of` meets its contract. Assumes nothing.
 use borrow.Author.Tests.{eq-eqb, ne-eqb}
-use Rattle.third.proofs.edge_of.Statement.{statement}
-use Rattle.third.proofs.edge_of.Tie as tie
+use Rattle.mark_columns.proofs.edge_of.Statement.{statement}
+use Rattle.mark_columns.proofs.edge_of.Tie as tie
 
 returns : tie.Need-returns
 returns c = rw (eq-eqb _ 1 (c .if1 .taken))

@@ -1,10 +1,10 @@
--- `third::scans_of` meets its contract. Assumes nothing.
+-- `mark_columns::scans_of` meets its contract. Assumes nothing.
 use native.Mathlib.Omega.{arith}
 use mathlib.Core.Path.{_≡_}
 use lib.ListN.{length}
 use borrow.Author.Needs.{needs}
-use Rattle.third.proofs.scans_of.Statement.{statement}
-use Rattle.third.proofs.scans_of.Tie as tie
+use Rattle.mark_columns.proofs.scans_of.Statement.{statement}
+use Rattle.mark_columns.proofs.scans_of.Tie as tie
 
 ends-long : (c : tie.After-superior-ends) → length (c .superior-ends .result) ≡ 256
 ends-long c = search needs

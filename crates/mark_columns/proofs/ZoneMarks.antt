@@ -34,7 +34,7 @@ use Rattle.scan.proofs.Columns.{there, records-none}
 use Rattle.hits.specs.declared.Hit.{Hit}
 use Rattle.hits.specs.declared.Hit.the-variants.{At, Nothing}
 use Rattle.hits.specs.Found.{hitBar, Priced}
-use Rattle.third.specs.Third.{markOf}
+use Rattle.mark_columns.specs.Third.{markOf}
 use Rattle.hits.proofs.Hits.{hit-first, hit-later}
 
 -- ---- one zone

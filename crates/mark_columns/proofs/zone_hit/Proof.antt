@@ -1,4 +1,4 @@
--- `third::zone_hit` meets its contract. The invariant: the first hit is that of the bigs that are left. Assumes nothing.
+-- `mark_columns::zone_hit` meets its contract. The invariant: the first hit is that of the bigs that are left. Assumes nothing.
 use Prim.Native.Nat.{ℕ, _-_, _<_}
 use native.Mathlib.Omega.{arith}
 use mathlib.Core.Path.{_≡_, refl}
@@ -13,9 +13,9 @@ use Rattle.rules.specs.Marks.{beats, pairEnds}
 use Rattle.columns.specs.Columns.{Column, endOf}
 use Rattle.scan.specs.Scan.{reached}
 use borrow.Author.Needs.{needs}
-use Rattle.third.proofs.ZoneMarks.{scan-over, scan-here, scan-later, scan-none, pair-later}
-use Rattle.third.proofs.zone_hit.Statement.{statement}
-use Rattle.third.proofs.zone_hit.Tie as tie
+use Rattle.mark_columns.proofs.ZoneMarks.{scan-over, scan-here, scan-later, scan-none, pair-later}
+use Rattle.mark_columns.proofs.zone_hit.Statement.{statement}
+use Rattle.mark_columns.proofs.zone_hit.Tie as tie
 
 abbrev Inv-loop : tie.InvT-loop
 Inv-loop ways ends m d limit from p highs lows buy at₀ at =

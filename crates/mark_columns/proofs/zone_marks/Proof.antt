@@ -1,4 +1,4 @@
--- `third::zone_marks` meets its contract. The invariant: the columns have the marks so far, and these with the marks of the zones that are left are the marks of all. Assumes nothing.
+-- `mark_columns::zone_marks` meets its contract. The invariant: the columns have the marks so far, and these with the marks of the zones that are left are the marks of all. Assumes nothing.
 use Prim.Native.Nat.{_-_, _≤_, _<_}
 use native.Mathlib.Omega.{arith}
 use mathlib.Core.Path.{_≡_, refl, _∙_}
@@ -18,11 +18,11 @@ use Rattle.columns.proofs.Fill.{column-length, column-at}
 use Rattle.scan.specs.Scan.{Scanning}
 use Rattle.scan.proofs.Columns.{there}
 use Rattle.scan.proofs.Steps.{no-zone}
-use Rattle.third.specs.Third.{Marked}
-use Rattle.third.proofs.Repeats.{marked-none, marked-more}
-use Rattle.third.proofs.ZoneMarks.{hit-price, hit-within, edge-by, zones-none, zone-pass, zone-mark}
-use Rattle.third.proofs.zone_marks.Statement.{statement}
-use Rattle.third.proofs.zone_marks.Tie as tie
+use Rattle.mark_columns.specs.Third.{Marked}
+use Rattle.mark_columns.proofs.Repeats.{marked-none, marked-more}
+use Rattle.mark_columns.proofs.ZoneMarks.{hit-price, hit-within, edge-by, zones-none, zone-pass, zone-mark}
+use Rattle.mark_columns.proofs.zone_marks.Statement.{statement}
+use Rattle.mark_columns.proofs.zone_marks.Tie as tie
 
 abbrev Inv-loop : tie.InvT-loop
 Inv-loop ways ends m sides froms limits zds zgs n highs lows keys₀ bars₀ prices₀ grounds₀ zoned₀ count₀ i₀ keys bars prices grounds zoned count i =

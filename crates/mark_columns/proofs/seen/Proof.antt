@@ -1,4 +1,4 @@
--- `third::seen` meets its contract. The invariant: whether the key was met or is among those that are left is whether it is among all. Assumes nothing.
+-- `mark_columns::seen` meets its contract. The invariant: whether the key was met or is among those that are left is whether it is among all. Assumes nothing.
 use Prim.Native.Nat.{ℕ, _-_, _≤_}
 use native.Mathlib.Omega.{arith}
 use mathlib.Core.Path.{_≡_, refl}
@@ -7,9 +7,9 @@ use lib.ListN.{take, drop}
 use lib.Dec.{eqb}
 use borrow.Author.Needs.{needs}
 use Rattle.rules.specs.Lists.{any}
-use Rattle.third.proofs.Repeats.{any-more, any-none}
-use Rattle.third.proofs.seen.Statement.{statement}
-use Rattle.third.proofs.seen.Tie as tie
+use Rattle.mark_columns.proofs.Repeats.{any-more, any-none}
+use Rattle.mark_columns.proofs.seen.Statement.{statement}
+use Rattle.mark_columns.proofs.seen.Tie as tie
 
 abbrev Inv-loop : tie.InvT-loop
 Inv-loop keys n key met₀ i₀ met i =

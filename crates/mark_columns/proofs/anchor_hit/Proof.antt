@@ -1,4 +1,4 @@
--- `third::anchor_hit` meets its contract. The invariant: the first hit of the bigs that are left is that of all. Assumes nothing.
+-- `mark_columns::anchor_hit` meets its contract. The invariant: the first hit of the bigs that are left is that of all. Assumes nothing.
 use Prim.Native.Nat.{ℕ, suc, _-_}
 use native.Mathlib.Omega.{arith}
 use mathlib.Core.Path.{_≡_, ap}
@@ -14,9 +14,9 @@ use Rattle.rules.specs.Ranges.{lastStroke}
 use Rattle.rules.specs.Marks.{beats, anchorBars}
 use Rattle.columns.specs.Columns.{Column, barOf}
 use Rattle.hits.proofs.Ends.{barsIn, bars-settled}
-use Rattle.third.proofs.Anchors.{bars-none, bars-over, bars-hit, bars-missed}
-use Rattle.third.proofs.anchor_hit.Statement.{statement}
-use Rattle.third.proofs.anchor_hit.Tie as tie
+use Rattle.mark_columns.proofs.Anchors.{bars-none, bars-over, bars-hit, bars-missed}
+use Rattle.mark_columns.proofs.anchor_hit.Statement.{statement}
+use Rattle.mark_columns.proofs.anchor_hit.Tie as tie
 
 abbrev Inv-loop : tie.InvT-loop
 Inv-loop ways bars m buy after from p highs lows k₀ k =

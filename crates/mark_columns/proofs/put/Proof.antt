@@ -1,11 +1,11 @@
--- `third::put` meets its contract. Assumes nothing.
+-- `mark_columns::put` meets its contract. Assumes nothing.
 use mathlib.Core.Path.{refl}
 use native.Mathlib.Omega.{arith}
 use lib.ListN.{length-set}
 use borrow.Author.Needs.{needs}
-use Rattle.third.proofs.Repeats.{put-repeat, put-new}
-use Rattle.third.proofs.put.Statement.{statement}
-use Rattle.third.proofs.put.Tie as tie
+use Rattle.mark_columns.proofs.Repeats.{put-repeat, put-new}
+use Rattle.mark_columns.proofs.put.Statement.{statement}
+use Rattle.mark_columns.proofs.put.Tie as tie
 
 key-of-requires : tie.Need-key-of-requires
 key-of-requires c κs = search needs

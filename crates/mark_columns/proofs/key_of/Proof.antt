@@ -1,8 +1,8 @@
--- `third::key_of` meets its contract. Assumes nothing.
+-- `mark_columns::key_of` meets its contract. Assumes nothing.
 use borrow.Author.Needs.{needs}
-use Rattle.third.proofs.Repeats.{key-buy, key-sell}
-use Rattle.third.proofs.key_of.Statement.{statement}
-use Rattle.third.proofs.key_of.Tie as tie
+use Rattle.mark_columns.proofs.Repeats.{key-buy, key-sell}
+use Rattle.mark_columns.proofs.key_of.Statement.{statement}
+use Rattle.mark_columns.proofs.key_of.Tie as tie
 
 mul-result : tie.Need-mul-result
 mul-result c = search needs

@@ -1,8 +1,8 @@
--- `third::marks_in` meets its contract. Assumes nothing.
+-- `mark_columns::marks_in` meets its contract. Assumes nothing.
 use native.Mathlib.Omega.{arith}
 use borrow.Author.Needs.{needs}
-use Rattle.third.proofs.marks_in.Statement.{statement}
-use Rattle.third.proofs.marks_in.Tie as tie
+use Rattle.mark_columns.proofs.marks_in.Statement.{statement}
+use Rattle.mark_columns.proofs.marks_in.Tie as tie
 
 zone-marks-requires : tie.Need-zone-marks-requires
 zone-marks-requires c κs = search needs

@@ -1,4 +1,4 @@
--- `third::anchor_marks` meets its contract. The invariant: the columns have the marks found and those so far, and these with the marks of the anchors that are left are the marks of all anchors. Assumes nothing.
+-- `mark_columns::anchor_marks` meets its contract. The invariant: the columns have the marks found and those so far, and these with the marks of the anchors that are left are the marks of all anchors. Assumes nothing.
 use Prim.Native.Nat.{_+_, _-_, _≤_, _<_}
 use native.Mathlib.Omega.{arith}
 use mathlib.Core.Path.{_≡_, refl, _∙_}
@@ -11,13 +11,13 @@ use Rattle.rules.specs.Records.{Levels, Quotes}
 use Rattle.rules.specs.Ranges.{lastStroke}
 use Rattle.rules.specs.Marks.{addThird}
 use Rattle.columns.specs.Columns.{Column, barOf, Prices}
-use Rattle.third.specs.Third.{Marked}
+use Rattle.mark_columns.specs.Third.{Marked}
 use Rattle.hits.specs.Found.{Settled}
 use Rattle.hits.proofs.Ends.{hit-inside}
-use Rattle.third.proofs.Anchors.{marksIn, anchors-all, anchor-missing, anchor-nowhere, anchor-nothing, anchor-at}
-use Rattle.third.proofs.Repeats.{marked-more}
-use Rattle.third.proofs.anchor_marks.Statement.{statement}
-use Rattle.third.proofs.anchor_marks.Tie as tie
+use Rattle.mark_columns.proofs.Anchors.{marksIn, anchors-all, anchor-missing, anchor-nowhere, anchor-nothing, anchor-at}
+use Rattle.mark_columns.proofs.Repeats.{marked-more}
+use Rattle.mark_columns.proofs.anchor_marks.Statement.{statement}
+use Rattle.mark_columns.proofs.anchor_marks.Tie as tie
 
 abbrev Inv-loop : tie.InvT-loop
 Inv-loop n ways ends points m buy highs lows found keys₀ bars₀ prices₀ grounds₀ zoned₀ count₀ last₀ place₀ i₀ keys bars prices grounds zoned count last place i =

@@ -1,0 +1,4 @@
+pub mod ZoneMarks
+pub mod Anchors
+pub mod Repeats
+pub mod Whole
