@@ -14,16 +14,10 @@ use Rattle.rules.specs.Lists.{any}
 use Rattle.rules.specs.Marks.{addThird}
 use Rattle.laws.proofs.Arrays.{left-more, left-none}
 use Rattle.columns.proofs.Fill as fill
-use Rattle.mark_columns.specs.Third.{keyOf, markKey, groundOf, isZone, groundPrice, markOf, Marked}
+use Rattle.numbering.specs.Rows.{keyOf, rowKey}
+use Rattle.mark_columns.specs.Third.{groundOf, isZone, groundPrice, markOf, Marked}
 
 -- ---- keys
-
-module _ (bar : ℕ) (buy : Bool) where
-  pub key-buy : buy ≡ true → bar * 2 + 1 ≡ keyOf bar buy
-  key-buy e = rw e
-
-  pub key-sell : buy ≡ false → bar * 2 ≡ keyOf bar buy
-  key-sell e = rw e (omega arith)
 
 -- two keys are the same where bar and side are
 pub key-same : (a b : ℕ) (x y : Bool) → eqb (keyOf a x) (keyOf b y) ≡ (eqb a b && Bool·beq x y)
@@ -58,17 +52,17 @@ module _
 
 any-keys :
     (ms : List ThirdMark) (m : ThirdMark)
-    → any (λ (k : ℕ). eqb k (markKey m)) (map markKey ms)
+    → any (λ (k : ℕ). eqb k (rowKey m)) (map rowKey ms)
     ≡ any (λ (x : ThirdMark). eqb (x .«bar_index») (m .«bar_index») && Bool·beq (x .«is_buy») (m .«is_buy»)) ms
 any-keys [] m = refl
 any-keys (x ∷ ms) m = rw (key-same (x .«bar_index») (m .«bar_index») (x .«is_buy») (m .«is_buy»), any-keys ms m)
 
 module _ (ms : List ThirdMark) (m : ThirdMark) where
-  add-repeat : any (λ (k : ℕ). eqb k (markKey m)) (map markKey ms) ≡ true → addThird ms m ≡ ms
+  add-repeat : any (λ (k : ℕ). eqb k (rowKey m)) (map rowKey ms) ≡ true → addThird ms m ≡ ms
   unfolding addThird
   add-repeat e = rw (addThird, ← any-keys ms m, e)
 
-  add-new : any (λ (k : ℕ). eqb k (markKey m)) (map markKey ms) ≡ false → addThird ms m ≡ ms ++ (m ∷ [])
+  add-new : any (λ (k : ℕ). eqb k (rowKey m)) (map rowKey ms) ≡ false → addThird ms m ≡ ms ++ (m ∷ [])
   unfolding addThird
   add-new e = rw (addThird, ← any-keys ms m, e)
 
@@ -92,7 +86,7 @@ module _
     abbrev m : ThirdMark
     m = markOf bar x buy zone p
 
-    among : any (λ (k : ℕ). eqb k (markKey m)) (map markKey l) ≡ r
+    among : any (λ (k : ℕ). eqb k (rowKey m)) (map rowKey l) ≡ r
     among = sym (rw (is-key, marked .by-key .are) at seen)
 
     pub put-repeat : r ≡ true → Marked count keys bars prices grounds zoned (addThird l m)

@@ -1,21 +1,13 @@
 -- What the structs of this crate stand for in the definition of third marks. Assumes nothing.
-use Prim.Native.Nat.{ℕ, _+_, _*_}
-use mathlib.Core.Bool.{Bool, true, false, cond}
+use Prim.Native.Nat.{ℕ}
+use mathlib.Core.Bool.{Bool, true, false}
 use mathlib.Core.List.{List}
 use lib.Ieee.{Float}
 use Rattle.chart.specs.declared.ThirdMark.{ThirdMark}
 use Rattle.chart.specs.declared.Ground.{Ground}
 use Rattle.chart.specs.declared.Ground.the-variants as ground
 use Rattle.columns.specs.Columns.{Column}
-
--- the bar and the side of a mark, as one number
-abbrev pub keyOf : ℕ → Bool → ℕ
-keyOf bar buy = bar * 2 + cond buy 1 0
-
-abbrev pub markKey : ThirdMark → ℕ
-markKey m = keyOf (m .«bar_index») (m .«is_buy»)
-
--- ---- marks in columns
+use Rattle.numbering.specs.Rows.{rowKey}
 
 -- a ground by its kind and its price, and back
 abbrev pub groundOf : Bool → Float → Ground
@@ -35,7 +27,7 @@ markOf bar x buy zone p = record { «bar_index» = bar; price = x; «is_buy» = 
 
 -- the first `count` places of the columns have the marks l
 pub record Marked (count : ℕ) (keys bars : List ℕ) (prices grounds : List Float) (zoned : List Bool) (l : List ThirdMark) : Type 0 where
-  pub by-key : Column markKey count keys l
+  pub by-key : Column rowKey count keys l
   pub by-bar : Column (λ (m : ThirdMark). m .«bar_index») count bars l
   pub by-price : Column (λ (m : ThirdMark). m .price) count prices l
   pub by-ground : Column (λ (m : ThirdMark). groundPrice (m .ground)) count grounds l

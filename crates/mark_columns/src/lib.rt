@@ -21,19 +21,9 @@ ghost use Rattle.rules.specs.Marks.{beats, pairEnds, zoneThird, anchorBars, anc
 ghost use Rattle.columns.specs.Columns.{Column, startOf, endOf, barOf, Prices};
 ghost use Rattle.scan.specs.Scan.{reached, Scanning};
 ghost use Rattle.hits.specs.Found.{hitBar, Priced, Settled};
-ghost use Rattle.mark_columns.specs.Third.{keyOf, markOf, Marked};
+ghost use Rattle.mark_columns.specs.Third.{markOf, Marked};
 
 // ---- marks in columns
-
-// A mark's bar and side as one number.
-fn key_of(bar: u16, buy: bool) -> u32
-    ensures { λ r. ⌜ r ≡ keyOf bar buy ⌝ }
-{
-    if buy {
-        return bar as u32 * 2 + 1;
-    }
-    bar as u32 * 2
-}
 
 // Whether a key is among the first n. Every one is looked at, with no test that ends the loop, so that several can be taken at once.
 fn seen(keys: &[u32], n: usize, key: u32) -> bool
@@ -68,7 +58,7 @@ fn put(
     ensures { λ r. ⌜ (r ≤ count + 1) × (length (now (keys .exit)) ≡ length (now (keys .entry))) × (length (now (bars .exit)) ≡ length (now (bars .entry))) × (length (now (prices .exit)) ≡ length (now (prices .entry))) × (length (now (grounds .exit)) ≡ length (now (grounds .entry))) × (length (now (zoned .exit)) ≡ length (now (zoned .entry))) ⌝ }
     ensures { λ r. ⌜ ((l : List ThirdMark) → Marked count (now (keys .entry)) (now (bars .entry)) (now (prices .entry)) (now (grounds .entry)) (now (zoned .entry)) l → Marked r (now (keys .exit)) (now (bars .exit)) (now (prices .exit)) (now (grounds .exit)) (now (zoned .exit)) (addThird l (markOf bar x buy zone p))) ⌝ }
 {
-    let key = key_of(bar, buy);
+    let key = numbering::key_of(bar, buy);
     if seen(keys, count, key) {
         return count;
     }

@@ -18,7 +18,8 @@ use Rattle.rules.specs.Answer.{rowsAnswer, given}
 use Rattle.laws.proofs.Answers.{given-rows}
 use Rattle.columns.proofs.Fill as fill
 use Rattle.scan.proofs.Columns.{there}
-use Rattle.mark_columns.specs.Third.{keyOf, markKey, groundOf, isZone, groundPrice, Marked}
+use Rattle.numbering.specs.Rows.{keyOf, rowKey}
+use Rattle.mark_columns.specs.Third.{groundOf, isZone, groundPrice, Marked}
 
 abbrev pub no-mark : ThirdMark
 no-mark = record { «bar_index» = 0; price = nan; «is_buy» = false; ground = ground.Zone nan }
@@ -26,7 +27,7 @@ no-mark = record { «bar_index» = 0; price = nan; «is_buy» = false; ground = 
 -- a mark by its parts
 mark-back :
     (m : ThirdMark)
-    → record { «bar_index» = m .«bar_index»; price = m .price; «is_buy» = eqb (markKey m % 2) 1; ground = groundOf (isZone (m .ground)) (groundPrice (m .ground)) }
+    → record { «bar_index» = m .«bar_index»; price = m .price; «is_buy» = eqb (rowKey m % 2) 1; ground = groundOf (isZone (m .ground)) (groundPrice (m .ground)) }
     ≡ m
 mark-back m = go (m .«bar_index») (m .price) (m .«is_buy») (m .ground)
   where
