@@ -47,16 +47,19 @@ pub both : (a b : Bool) → (a && b) ≡ true → (a ≡ true) × (b ≡ true)
 both true b h = (refl, h)
 both false b h = absurd (false≢true h)
 
--- p and q are tests of its two prices that only prices pass
-pub right-at-a-glance :
-    (s : Stroke) (p q : Bool) → (p ≡ true → isPrice (s .«start_price») ≡ true) → (q ≡ true → isPrice (s .«end_price») ≡ true)
-    → (leb (s .direction) 1 && p && q) ≡ true → wrongStroke s ≡ false
-unfolding wrongStroke badPrices
-right-at-a-glance s p q first last h =
-    let all = both (leb (s .direction) 1 && p) q h in
-    let two = both (leb (s .direction) 1) p (all .0) in
-    let way : s .direction ≤ 1 = leb→le _ _ (subst T (sym (two .0)) tt) in
-    rw (le-ltb 1 (s .direction) way, first (two .1), last (all .1))
+pub plain-prices : (s : Stroke) → (isPrice (s .«start_price») ≡ true) × (isPrice (s .«end_price») ≡ true) → badPrices s ≡ false
+unfolding badPrices
+plain-prices s two = rw (two .0, two .1)
+
+pub right-stroke : (s : Stroke) → s .direction ≤ 1 → badPrices s ≡ false → wrongStroke s ≡ false
+unfolding wrongStroke
+right-stroke s way prices = rw (le-ltb 1 (s .direction) way, prices)
+
+-- p is a test of its prices that only prices pass
+pub right-at-a-glance : (s : Stroke) (p : Bool) → (p ≡ true → badPrices s ≡ false) → (leb (s .direction) 1 && p) ≡ true → wrongStroke s ≡ false
+right-at-a-glance s p prices h =
+    let two = both (leb (s .direction) 1) p h in
+    right-stroke s (leb→le _ _ (subst T (sym (two .0)) tt)) (prices (two .1))
 
 -- ---- a chart
 
@@ -91,3 +94,10 @@ module _ (c : Chart) where
       → any wrongStroke (take (c .«stroke_count») (c .strokes)) ≡ badChart c
   unfolding badChart overfull badLevels levelsOf
   bad-strokes o g b u = simp (o, g, b, u, or-false)
+
+  pub bad-rest :
+      counts ≡ false → any wrongStroke (take (c .«stroke_count») (c .strokes)) ≡ false
+      → any wrongTriple (take (c .«segment_count») (c .segments)) ≡ false → any wrongTriple (take (c .«big_count») (c .bigs)) ≡ false
+      → any wrongTriple (take (c .«superior_count») (c .superiors)) ≡ badChart c
+  unfolding badChart overfull badLevels levelsOf
+  bad-rest o s g b = simp (o, s, g, b, or-false)

@@ -16,7 +16,7 @@ ghost use lib.ListN.{take};
 ghost use Rattle.rules.specs.Lists.{any};
 ghost use Rattle.rules.specs.Records.{levelsOf};
 ghost use Rattle.rules.specs.Ranges.{spanned, rangeOf, endPoint};
-ghost use Rattle.rules.specs.Refusals.{wrongStroke, wrongTriple, badChart};
+ghost use Rattle.rules.specs.Refusals.{badPrices, wrongStroke, wrongTriple, badChart};
 ghost use Rattle.chart.specs.Table.{rangesIn, pointOf};
 ghost use Rattle.levels.specs.Read.{Within, rangeFrom};
 
@@ -35,15 +35,22 @@ fn wrong_stroke(s: Stroke) -> bool
     true
 }
 
-// Whether a stroke is right at a glance: its prices are not 0. It has no branch, so that a loop tests the two prices at a time.
+// Whether the prices of a stroke are right at a glance, by their product. It has no branch, so that a loop tests several strokes at a time.
+pub fn plain_prices(s: Stroke) -> bool
+    ensures { λ r. ⌜ (r ≡ true → badPrices s ≡ false) ⌝ }
+{
+    price::plain_product(s.start_price, s.end_price)
+}
+
+// Whether a stroke is right at a glance.
 fn plain_stroke(s: Stroke) -> bool
     ensures { λ r. ⌜ (r ≡ true → wrongStroke s ≡ false) ⌝ }
 {
-    (s.direction <= 1) & price::off_zero(s.start_price) & price::off_zero(s.end_price)
+    (s.direction <= 1) & plain_prices(s)
 }
 
 // Whether one of the first n triples has a direction above 1.
-fn wrong_triples(triples: [Triple; 256], n: u16) -> bool
+pub fn wrong_triples(triples: [Triple; 256], n: u16) -> bool
     requires { ⌜ n ≤ 256 ⌝ }
     ensures { λ r. ⌜ r ≡ any wrongTriple (take n triples) ⌝ }
 {
@@ -58,7 +65,7 @@ fn wrong_triples(triples: [Triple; 256], n: u16) -> bool
 }
 
 // Whether a level's count is above its size.
-fn overfull(strokes: u16, segments: u16, bigs: u16, superiors: u16) -> bool
+pub fn overfull(strokes: u16, segments: u16, bigs: u16, superiors: u16) -> bool
     ensures { λ r. ⌜ r ≡ (ltb 512 strokes || ltb 256 segments || ltb 256 bigs || ltb 256 superiors) ⌝ }
 {
     if 512 < strokes {

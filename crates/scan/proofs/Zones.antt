@@ -3,7 +3,7 @@ use Prim.Native.Nat.{ℕ, suc, _+_, _-_, _<_, _≤_}
 use native.Mathlib.Omega.{arith}
 use native.Mathlib.Numerals.{add-one}
 use mathlib.Core.Path.{_≡_, refl, sym, ap, _∙_}
-use mathlib.Core.Bool.{Bool, true, false, not, _||_}
+use mathlib.Core.Bool.{Bool, true, false, not, _&&_, _||_}
 use mathlib.Core.List.{List, [], _∷_, map}
 use mathlib.Core.Option.{some}
 use lib.ListN.{length, getD, getElem?, set, take, drop}
@@ -82,6 +82,10 @@ scans-next c zs i sides froms limits z a b l p q r done here scan j y k e = go (
 
 -- ---- 8 and 1 of lent prices
 
+not-and : (a b : Bool) → not (a && b) ≡ (not a || not b)
+not-and true b = refl
+not-and false b = refl
+
 module _ (highs lows : List Float) (k : ℕ) where
   abbrev q : Quotes
   q = record { highs = highs; lows = lows }
@@ -95,14 +99,10 @@ module _ (highs lows : List Float) (k : ℕ) where
   refuse-long h l = rw (eq-eqb (length highs) (length lows) h, lt-ltb 0x1_0000 (length highs) l)
 
   module _ (h : length highs ≡ length lows) (l : length highs ≤ 0x1_0000) where
-    pub refuse-highs : allPrices highs ≡ false → 1 ≡ quotesRefusal q k
+    pub refuse-prices : (allPrices highs && allPrices lows) ≡ false → 1 ≡ quotesRefusal q k
     unfolding badSlices unequal badQuotes refuse
-    refuse-highs e = rw (eq-eqb (length highs) (length lows) h, le-ltb 0x1_0000 (length highs) l, e)
+    refuse-prices e = rw (eq-eqb (length highs) (length lows) h, le-ltb 0x1_0000 (length highs) l, ← not-and, e)
 
-    pub refuse-lows : allPrices highs ≡ true → allPrices lows ≡ false → 1 ≡ quotesRefusal q k
+    pub refuse-none : (allPrices highs && allPrices lows) ≡ true → k ≡ quotesRefusal q k
     unfolding badSlices unequal badQuotes refuse
-    refuse-lows e f = rw (eq-eqb (length highs) (length lows) h, le-ltb 0x1_0000 (length highs) l, e, f)
-
-    pub refuse-none : allPrices highs ≡ true → allPrices lows ≡ true → k ≡ quotesRefusal q k
-    unfolding badSlices unequal badQuotes refuse
-    refuse-none e f = rw (eq-eqb (length highs) (length lows) h, le-ltb 0x1_0000 (length highs) l, e, f)
+    refuse-none e = rw (eq-eqb (length highs) (length lows) h, le-ltb 0x1_0000 (length highs) l, ← not-and, e)

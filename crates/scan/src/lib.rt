@@ -364,10 +364,7 @@ pub fn quotes_refusal(highs: &[f64], lows: &[f64]) -> u8
     if 65536 < highs.len() {
         return 8;
     }
-    if !price::all_prices(highs) {
-        return 1;
-    }
-    if !price::all_prices(lows) {
+    if !price::both_prices(highs, lows) {
         return 1;
     }
     0

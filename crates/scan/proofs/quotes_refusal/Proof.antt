@@ -1,52 +1,29 @@
 -- `scan::quotes_refusal` meets its contract. Assumes nothing.
 use mathlib.Core.Path.{sym, _∙_}
 use borrow.Author.Tests.{not-true, not-false}
-use Rattle.scan.proofs.Zones.{refuse-unequal, refuse-long, refuse-highs, refuse-lows, refuse-none}
+use Rattle.scan.proofs.Zones.{refuse-unequal, refuse-long, refuse-prices, refuse-none}
 use borrow.Author.Needs.{needs}
 use Rattle.scan.proofs.quotes_refusal.Statement.{statement}
 use Rattle.scan.proofs.quotes_refusal.Tie as tie
 
 returns : tie.Need-returns
-returns c =
-    refuse-unequal _ _ 0 (c .if1 .taken)
+returns c = refuse-unequal _ _ 0 (c .if1 .taken)
 
 returns-2 : tie.Need-returns-2
-returns-2 c =
-    refuse-long _ _ 0 (c .before .if1 .left) (c .if2 .taken)
+returns-2 c = refuse-long _ _ 0 (c .before .if1 .left) (c .if2 .taken)
 
-all-prices-requires : tie.Need-all-prices-requires
-all-prices-requires c κs = search needs
+both-prices-requires : tie.Need-both-prices-requires
+both-prices-requires c κs = search needs
 
 returns-3 : tie.Need-returns-3
 returns-3 c =
     let at2 = c .before .before in
-    refuse-highs _ _ 0 (at2 .before .if1 .left) (at2 .if2 .left) (sym (c .before .all-prices .ensures) ∙ not-true _ (c .if3 .taken))
-
-all-prices-requires-2 : tie.Need-all-prices-requires-2
-all-prices-requires-2 c κs = search needs
+    refuse-prices _ _ 0 (at2 .before .if1 .left) (at2 .if2 .left) (sym (c .before .both-prices .ensures) ∙ not-true _ (c .if3 .taken))
 
 returns-4 : tie.Need-returns-4
 returns-4 c =
-    let at3 = c .before .before in
-    let at2 = at3 .before .before in
-    refuse-lows _ _ 0 (at2 .before .if1 .left) (at2 .if2 .left) (sym (at3 .before .all-prices .ensures) ∙ not-false _ (at3 .if3 .left))
-    (sym (c .before .all-prices2 .ensures) ∙ not-true _ (c .if4 .taken))
-
-returns-5 : tie.Need-returns-5
-returns-5 c =
-    let at3 = c .before .before in
-    let at2 = at3 .before .before in
-    refuse-none _ _ 0 (at2 .before .if1 .left) (at2 .if2 .left) (sym (at3 .before .all-prices .ensures) ∙ not-false _ (at3 .if3 .left))
-    (sym (c .before .all-prices2 .ensures) ∙ not-false _ (c .if4 .left))
+    let at2 = c .before .before in
+    refuse-none _ _ 0 (at2 .before .if1 .left) (at2 .if2 .left) (sym (c .before .both-prices .ensures) ∙ not-false _ (c .if3 .left))
 
 pub quotes-refusal-spec : {M : Type 1} → statement M
-quotes-refusal-spec =
-    tie.close
-    (tie.spec
-    returns
-    returns-2
-    all-prices-requires
-    returns-3
-    all-prices-requires-2
-    returns-4
-    returns-5)
+quotes-refusal-spec = tie.close (tie.spec returns returns-2 both-prices-requires returns-3 returns-4)
