@@ -2,3 +2,4 @@ pub mod Fill
 pub mod Spans
 pub mod Ends
 pub mod Ascend
+pub mod Right

@@ -6,15 +6,17 @@ use chart::Slot;
 use chart::Stroke;
 use chart::Triple;
 ghost use mathlib.Core.Path.{_≡_};
-ghost use mathlib.Core.Bool.{true};
-ghost use mathlib.Core.List.{map};
+ghost use mathlib.Core.Bool.{true, false};
+ghost use mathlib.Core.List.{List, map};
 ghost use Prim.Native.Nat.{_≤_};
 ghost use lib.ListN.{length, take};
 ghost use Rattle.chart.specs.declared.Triple.{Triple};
 ghost use Rattle.chart.specs.Table.{rangesIn};
+ghost use Rattle.rules.specs.Lists.{any};
 ghost use Rattle.rules.specs.Records.{Levels, levelsOf};
 ghost use Rattle.rules.specs.Ranges.{rangeOf, lastStroke};
 ghost use Rattle.rules.specs.Marks.{superiorEnd};
+ghost use Rattle.rules.specs.Refusals.{wrongTriple, badChart};
 ghost use Rattle.columns.specs.Columns.{Column, Ascending, startOf, endOf, rangeAt, Spans, barOf, BigColumns};
 ghost use Rattle.columns.specs.Read.{lastFrom};
 
@@ -122,8 +124,29 @@ fn end_bar_from(b: Triple, z: Triple, e: Stroke, segments: u16, strokes: u16) ->
     e.end_bar as u32 + 1
 }
 
-// The columns of all bigs: the directions, the bars and prices of the ranges, the end points. One pass over the chart, since each call
-// on a chart copies it.
+// The larger of two directions.
+fn larger(a: u8, b: u8) -> u8
+    ensures { λ r. ⌜ (a ≤ r) × (b ≤ r) ⌝ }
+{
+    if a < b { b } else { a }
+}
+
+// Whether the first n directions of a column are 0 or 1. Each is looked at, with no test that ends the loop, so that many can be taken at once.
+fn right_ways(ways: &[u8], n: usize) -> bool
+    requires { ⌜ n ≤ length (now ways) ⌝ }
+    ensures { λ r. ⌜ (r ≡ true → (ts : List Triple) → Column (λ (t : Triple). t .direction) n (now (ways .entry)) ts → any wrongTriple ts ≡ false) ⌝ }
+{
+    let mut most = 0u8;
+    let mut i = 0usize;
+    while i < n {
+        most = larger(most, ways[i]);
+        i += 1;
+    }
+    most <= 1
+}
+
+// Refusal 21 of a loaded chart, and the columns of all bigs: the directions, the bars and prices of the ranges, the end points. All of it
+// in one function, since each call on a chart copies it. Where a glance at the strokes and directions does not do, bad_chart decides.
 pub fn bigs_of(
     chart: Chart,
     ways: &mut [u8],
@@ -133,12 +156,37 @@ pub fn bigs_of(
     highs: &mut [f64],
     points: &mut [u32],
     prices: &mut [f64],
-)
-    requires { ⌜ (chart .«stroke_count» ≤ 512) × (chart .«segment_count» ≤ 256) × (chart .«big_count» ≤ 256) ⌝ }
+) -> bool
     requires { ⌜ (length (now ways) ≡ 256) × (length (now starts) ≡ 256) × (length (now ends) ≡ 256) × (length (now lows) ≡ 256) × (length (now highs) ≡ 256) × (length (now points) ≡ 256) × (length (now prices) ≡ 256) ⌝ }
-    ensures { λ _. ⌜ BigColumns (levelsOf chart) (chart .«big_count») (now (ways .exit)) (now (starts .exit)) (now (ends .exit)) (now (points .exit)) (now (prices .exit)) ⌝ }
-    ensures { λ _. ⌜ Spans (chart .«big_count») (now (starts .exit)) (now (ends .exit)) (now (lows .exit)) (now (highs .exit)) (map (rangeOf (levelsOf chart)) (levelsOf chart .bigs)) ⌝ }
+    ensures { λ r. ⌜ r ≡ badChart chart ⌝ }
+    ensures { λ r. ⌜ (r ≡ false → BigColumns (levelsOf chart) (chart .«big_count») (now (ways .exit)) (now (starts .exit)) (now (ends .exit)) (now (points .exit)) (now (prices .exit)) × Spans (chart .«big_count») (now (starts .exit)) (now (ends .exit)) (now (lows .exit)) (now (highs .exit)) (map (rangeOf (levelsOf chart)) (levelsOf chart .bigs))) ⌝ }
 {
+    if levels::overfull(
+        chart.stroke_count,
+        chart.segment_count,
+        chart.big_count,
+        chart.superior_count,
+    ) {
+        return true;
+    }
+    let segments = chart.segments;
+    if levels::wrong_triples(segments, chart.segment_count) {
+        return true;
+    }
+    let superiors = chart.superiors;
+    if levels::wrong_triples(superiors, chart.superior_count) {
+        return true;
+    }
+    let count = chart.stroke_count as usize;
+    let mut plain = true;
+    let mut most = 0u8;
+    let mut at = 0usize;
+    while at < count {
+        let s = chart.strokes[at];
+        plain = plain & levels::plain_prices(s);
+        most = larger(most, s.direction);
+        at += 1;
+    }
     let n = chart.big_count as usize;
     let mut k = 0usize;
     while k < n {
@@ -162,6 +210,10 @@ pub fn bigs_of(
         prices[k] = e.end_price;
         k += 1;
     }
+    if plain & (most <= 1) & right_ways(ways, n) {
+        return false;
+    }
+    levels::bad_chart(chart)
 }
 
 // The end bar of a superior, by the end bars of m bigs.
