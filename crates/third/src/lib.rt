@@ -167,21 +167,11 @@ fn marks_of(
     rows_of(count, &keys, &bars, &prices, &grounds, &zoned)
 }
 
-// The third marks of a chart's overlap zones and anchors: 21, then 8, 1, and 11 where there are more than 256 zones. The chart is passed
-// over once, and what is worked out stands in columns, which are lent.
+// The third marks of a chart's overlap zones and anchors: 21, then 8, 1, and 11 where there are more than 256 zones. The chart is handed
+// on once, and what is worked out stands in columns, which are lent.
 pub fn bigseg_third_marks_all_zhongshu(chart: Chart, highs: &[f64], lows: &[f64]) -> ThirdRows
     ensures { λ r. ⌜ rowsAnswer (r .number) (r .count) (r .rows) ≡ thirdCall chart (record { highs = now (highs .entry); lows = now (lows .entry) }) ⌝ }
 {
-    if levels::bad_chart(chart) {
-        return refusal(21);
-    }
-    let number = scan::quotes_refusal(highs, lows);
-    if number != 0 {
-        return refusal(number);
-    }
-    let m = chart.big_count as usize;
-    let h = chart.superior_count as usize;
-    let superiors = chart.superiors;
     let mut ways = [0u8; 256];
     let mut from = [0u32; 256];
     let mut to = [0u32; 256];
@@ -189,7 +179,7 @@ pub fn bigseg_third_marks_all_zhongshu(chart: Chart, highs: &[f64], lows: &[f64]
     let mut high = [0.0; 256];
     let mut bars = [0u32; 256];
     let mut prices = [0.0; 256];
-    columns::bigs_of(
+    let bad = columns::bigs_of(
         chart,
         &mut ways,
         &mut from,
@@ -199,6 +189,16 @@ pub fn bigseg_third_marks_all_zhongshu(chart: Chart, highs: &[f64], lows: &[f64]
         &mut bars,
         &mut prices,
     );
+    if bad {
+        return refusal(21);
+    }
+    let number = scan::quotes_refusal(highs, lows);
+    if number != 0 {
+        return refusal(number);
+    }
+    let m = chart.big_count as usize;
+    let h = chart.superior_count as usize;
+    let superiors = chart.superiors;
     let mut owners = [0u16; 256];
     let mut zone_starts = [0u16; 256];
     let mut zone_ends = [0u16; 256];

@@ -217,7 +217,24 @@ fn marks_of(
 pub fn bigseg_3n_marks_all_zhongshu(chart: Chart, highs: &[f64], lows: &[f64]) -> NRows
     ensures { λ r. ⌜ rowsAnswer (r .number) (r .count) (r .rows) ≡ nCall chart (record { highs = now (highs .entry); lows = now (lows .entry) }) ⌝ }
 {
-    if levels::bad_chart(chart) {
+    let mut ways = [0u8; 256];
+    let mut from = [0u32; 256];
+    let mut to = [0u32; 256];
+    let mut low = [0.0; 256];
+    let mut high = [0.0; 256];
+    let mut bars = [0u32; 256];
+    let mut prices = [0.0; 256];
+    let bad = columns::bigs_of(
+        chart,
+        &mut ways,
+        &mut from,
+        &mut to,
+        &mut low,
+        &mut high,
+        &mut bars,
+        &mut prices,
+    );
+    if bad {
         return refusal(21);
     }
     let number = scan::quotes_refusal(highs, lows);
@@ -231,23 +248,6 @@ pub fn bigseg_3n_marks_all_zhongshu(chart: Chart, highs: &[f64], lows: &[f64]) -
     let m = chart.big_count as usize;
     let h = chart.superior_count as usize;
     let superiors = chart.superiors;
-    let mut ways = [0u8; 256];
-    let mut from = [0u32; 256];
-    let mut to = [0u32; 256];
-    let mut low = [0.0; 256];
-    let mut high = [0.0; 256];
-    let mut bars = [0u32; 256];
-    let mut prices = [0.0; 256];
-    columns::bigs_of(
-        chart,
-        &mut ways,
-        &mut from,
-        &mut to,
-        &mut low,
-        &mut high,
-        &mut bars,
-        &mut prices,
-    );
     let mut owners = [0u16; 256];
     let mut zone_starts = [0u16; 256];
     let mut zone_ends = [0u16; 256];

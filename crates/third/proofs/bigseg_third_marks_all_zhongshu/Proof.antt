@@ -18,15 +18,18 @@ use Rattle.third.proofs.Call.{third-bad, third-quotes, third-many, thir
 use Rattle.third.proofs.bigseg_third_marks_all_zhongshu.Statement.{statement}
 use Rattle.third.proofs.bigseg_third_marks_all_zhongshu.Tie as tie
 
--- the chart is not refused with 21
-good : (c : tie.Else1) → badChart (c .before .before .before .before .args .chart) ≡ false
-good c = sym (c .before .bad-chart .ensures) ∙ c .if1 .left
-
-counts : (c : tie.Else1) → Counted (c .before .before .before .before .args .chart)
-counts c = counted _ (good c)
-
 abbrev start : tie.Else1 → tie.Start
-start c = c .before .before .before .before
+start c = c .before .before .before .before .before .before .before .before .before .before .before .before .before .before .before .before .before .before
+
+abbrev at-bigs : tie.Else1 → tie.After-bigs-of
+at-bigs c = c .before .before .before .before .before .before .before .before
+
+-- the chart is not refused with 21
+good : (c : tie.Else1) → badChart (start c .args .chart) ≡ false
+good c = sym (at-bigs c .bigs-of .ensures .0) ∙ c .if1 .left
+
+counts : (c : tie.Else1) → Counted (start c .args .chart)
+counts c = counted _ (good c)
 
 abbrev quotes : tie.Else1 → Quotes
 quotes c = record { highs = start c .args .highs .now; lows = start c .args .lows .now }
@@ -35,39 +38,11 @@ quotes c = record { highs = start c .args .highs .now; lows = start c .args .low
 passed : (c : tie.Else2) → 0 ≡ quotesRefusal (quotes (c .before .before)) 0
 passed c = sym (c .if2 .left) ∙ c .before .quotes-refusal .ensures
 
-abbrev else2 : tie.After-bigs-of → tie.Else2
-else2 c = c .before .before .before .before .before .before .before .before .before .before .before
+abbrev else2 : tie.After-overlap-columns → tie.Else2
+else2 c = c .before .before .before .before .before .before .before .before .before .before .before .before .before .before
 
-abbrev else1 : tie.After-bigs-of → tie.Else1
-else1 c = c .before .before .before .before .before .before .before .before .before .before .before .before .before
-
-bad-chart-requires : tie.Need-bad-chart-requires
-bad-chart-requires c κs = search needs
-
-refusal-requires : tie.Need-refusal-requires
-refusal-requires c κs = search needs
-
-returns : tie.Need-returns
-returns c =
-    let at-bad = c .before .before in
-    c .refusal .ensures ∙ third-bad _ _ (sym (at-bad .bad-chart .ensures) ∙ c .before .if1 .taken)
-
-quotes-refusal-requires : tie.Need-quotes-refusal-requires
-quotes-refusal-requires c κs = search needs
-
-refusal-requires-2 : tie.Need-refusal-requires-2
-refusal-requires-2 c κs = search needs
-
-returns-2 : tie.Need-returns-2
-returns-2 c =
-    let at-quotes = c .before .before in
-    c .refusal2 .ensures ∙ third-quotes _ (quotes (at-quotes .before)) (good (at-quotes .before)) _ (at-quotes .quotes-refusal .ensures) (c .before .if2 .taken)
-
-cast-m : tie.Need-cast-m
-cast-m c = search needs
-
-cast-h : tie.Need-cast-h
-cast-h c = search needs
+abbrev else1 : tie.After-overlap-columns → tie.Else1
+else1 c = else2 c .before .before
 
 slice-aggregate-bigs-of : tie.Need-slice-aggregate-bigs-of
 slice-aggregate-bigs-of c = search needs
@@ -91,9 +66,31 @@ slice-aggregate-bigs-of-7 : tie.Need-slice-aggregate-bigs-of-7
 slice-aggregate-bigs-of-7 c = search needs
 
 bigs-of-requires : tie.Need-bigs-of-requires
-bigs-of-requires c κs =
-    let n = counts (c .before .before .before .before .before .before .before .before .before .before .before .before) in
-    ((n .strokes, n .segments, n .bigs), (refl, refl, refl, refl, refl, refl, refl))
+bigs-of-requires c κs = (refl, refl, refl, refl, refl, refl, refl)
+
+refusal-requires : tie.Need-refusal-requires
+refusal-requires c κs = search needs
+
+returns : tie.Need-returns
+returns c =
+    c .refusal .ensures ∙ third-bad _ _ (sym (c .before .before .before .before .before .before .before .before .before .bigs-of .ensures .0) ∙ c .before .if1 .taken)
+
+quotes-refusal-requires : tie.Need-quotes-refusal-requires
+quotes-refusal-requires c κs = search needs
+
+refusal-requires-2 : tie.Need-refusal-requires-2
+refusal-requires-2 c κs = search needs
+
+returns-2 : tie.Need-returns-2
+returns-2 c =
+    let at-quotes = c .before .before in
+    c .refusal2 .ensures ∙ third-quotes _ (quotes (at-quotes .before)) (good (at-quotes .before)) _ (at-quotes .quotes-refusal .ensures) (c .before .if2 .taken)
+
+cast-m : tie.Need-cast-m
+cast-m c = search needs
+
+cast-h : tie.Need-cast-h
+cast-h c = search needs
 
 slice-aggregate-overlap-columns : tie.Need-slice-aggregate-overlap-columns
 slice-aggregate-overlap-columns c = search needs
@@ -127,10 +124,13 @@ slice-aggregate-overlap-columns-10 c = search needs
 
 overlap-columns-requires : tie.Need-overlap-columns-requires
 overlap-columns-requires c κs =
-    let at-bigs = c .before .before .before .before .before .before .before .before .before .before .before .before .before .before .before .before .before in
-    let n = counts (else1 at-bigs) in
-    let bigs = at-bigs .bigs-of .ensures .0 in
-    ((n .superiors, n .bigs, bigs .by-way .long, bigs .by-start .long, bigs .by-end .long, search needs, search needs), (refl, refl, refl, refl, refl))
+    let e1 = c .before .before .before .before .before .before .before .before .before .before .before .before .before .before .before in
+    let n = counts e1 in
+    let bigs = at-bigs e1 .bigs-of .ensures .1 (e1 .if1 .left) .0 in
+    let kept = at-bigs e1 .bigs-of .kept in (
+      (n .superiors, n .bigs, bigs .by-way .long, bigs .by-start .long, bigs .by-end .long, omega (arith, n .bigs, kept .1 .1 .1 .1 .0), omega (arith, n .bigs, kept .1 .1 .1 .1 .1 .0)),
+      (refl, refl, refl, refl, refl),
+    )
 
 refusal-requires-3 : tie.Need-refusal-requires-3
 refusal-requires-3 c κs = search needs
@@ -139,12 +139,12 @@ returns-3 : tie.Need-returns-3
 unfolding levelsOf overlapZones
 returns-3 c =
     let at-overlap = c .before .before .before .before .before .before .before in
-    let at-bigs = at-overlap .before .before .before .before .before .before .before .before .before .before .before .before .before .before .before .before .before .before in
-    let e1 = else1 at-bigs in
+    let e1 = else1 at-overlap in
     let l = levelsOf (start e1 .args .chart) in
-    let found = at-overlap .overlap-columns .ensures .1 (rangeOf l) (l .bigs) (at-bigs .bigs-of .ensures .0 .by-way) (at-bigs .bigs-of .ensures .1) in
+    let bigs = at-bigs e1 .bigs-of .ensures .1 (e1 .if1 .left) in
+    let found = at-overlap .overlap-columns .ensures .1 (rangeOf l) (l .bigs) (bigs .0 .by-way) (bigs .1) in
     c .refusal3 .ensures
-    ∙ third-many _ (quotes e1) (good e1) (passed (else2 at-bigs)) 11 (zones-many l (found .0 (c .before .if3 .taken))) (λ e. omega arith)
+    ∙ third-many _ (quotes e1) (good e1) (passed (else2 at-overlap)) 11 (zones-many l (found .0 (c .before .if3 .taken))) (λ e. omega arith)
 
 slice-aggregate-marks-of : tie.Need-slice-aggregate-marks-of
 slice-aggregate-marks-of c = search needs
@@ -162,37 +162,36 @@ slice-aggregate-marks-of-5 : tie.Need-slice-aggregate-marks-of-5
 slice-aggregate-marks-of-5 c = search needs
 
 slice-aggregate-marks-of-6 : tie.Need-slice-aggregate-marks-of-6
-slice-aggregate-marks-of-6 c = search needs
+slice-aggregate-marks-of-6 c = sym (at-bigs (else1 (c .before .before .before .before .before .before .before .before .before .before .before .before)) .bigs-of .kept .1 .0)
 
 slice-aggregate-marks-of-7 : tie.Need-slice-aggregate-marks-of-7
-slice-aggregate-marks-of-7 c = search needs
+slice-aggregate-marks-of-7 c = sym (at-bigs (else1 (c .before .before .before .before .before .before .before .before .before .before .before .before .before)) .bigs-of .kept .1 .1 .0)
 
 slice-aggregate-marks-of-8 : tie.Need-slice-aggregate-marks-of-8
-slice-aggregate-marks-of-8 c = search needs
+slice-aggregate-marks-of-8 c = sym (at-bigs (else1 (c .before .before .before .before .before .before .before .before .before .before .before .before .before .before)) .bigs-of .kept .1 .1 .1 .0)
 
 slice-aggregate-marks-of-9 : tie.Need-slice-aggregate-marks-of-9
-slice-aggregate-marks-of-9 c = search needs
+slice-aggregate-marks-of-9 c = sym (at-bigs (else1 (c .before .before .before .before .before .before .before .before .before .before .before .before .before .before .before)) .bigs-of .kept .1 .1 .1 .1 .1 .1 .0)
 
 slice-aggregate-marks-of-10 : tie.Need-slice-aggregate-marks-of-10
-slice-aggregate-marks-of-10 c = search needs
+slice-aggregate-marks-of-10 c = sym (at-bigs (else1 (c .before .before .before .before .before .before .before .before .before .before .before .before .before .before .before .before)) .bigs-of .kept .1 .1 .1 .1 .1 .1 .1 .0)
 
 marks-of-requires : tie.Need-marks-of-requires
 unfolding levelsOf overlapZones
 marks-of-requires c κs =
     let else3 = c .before .before .before .before .before .before .before .before .before .before in
     let at-overlap = else3 .before .before .before .before .before .before in
-    let at-bigs = at-overlap .before .before .before .before .before .before .before .before .before .before .before .before .before .before .before .before .before .before in
-    let e1 = else1 at-bigs in
+    let e1 = else1 at-overlap in
     let chart = start e1 .args .chart in
     let l = levelsOf chart in
     let n = counts e1 in
-    let fit = quotes-fit _ _ (passed (else2 at-bigs)) in
-    let bigs = at-bigs .bigs-of .ensures .0 in
+    let fit = quotes-fit _ _ (passed (else2 at-overlap)) in
+    let bigs = at-bigs e1 .bigs-of .ensures .1 (e1 .if1 .left) in
     let few = else3 .if3 .left in
-    let zones = at-overlap .overlap-columns .ensures .1 (rangeOf l) (l .bigs) (bigs .by-way) (at-bigs .bigs-of .ensures .1) .1 few in (
+    let zones = at-overlap .overlap-columns .ensures .1 (rangeOf l) (l .bigs) (bigs .0 .by-way) (bigs .1) .1 few in (
       (few, n .superiors, n .bigs, fit .0, fit .1),
       (
-        (bigs .by-way .long, bigs .by-start .long, bigs .by-end .long, bigs .by-point .long, omega (arith, slice-aggregate-marks-of-10 c, n .bigs)),
+        (bigs .0 .by-way .long, bigs .0 .by-start .long, bigs .0 .by-end .long, bigs .0 .by-point .long, omega (arith, slice-aggregate-marks-of-10 c, n .bigs)),
         (zones .by-owner .long, zones .by-start .long, zones .by-end .long, zones .by-low .long, zones .by-high .long, owners-below _ _ _ _ (zones-own chart) (zones .by-owner)),
       ),
     )
@@ -202,27 +201,18 @@ unfolding levelsOf overlapZones
 returns-4 c =
     let else3 = c .before .before .before .before .before .before .before .before .before .before .before in
     let at-overlap = else3 .before .before .before .before .before .before in
-    let at-bigs = at-overlap .before .before .before .before .before .before .before .before .before .before .before .before .before .before .before .before .before .before in
-    let e1 = else1 at-bigs in
+    let e1 = else1 at-overlap in
     let l = levelsOf (start e1 .args .chart) in
-    let bigs = at-bigs .bigs-of .ensures .0 in
+    let bigs = at-bigs e1 .bigs-of .ensures .1 (e1 .if1 .left) in
     let few = else3 .if3 .left in
-    let zones = at-overlap .overlap-columns .ensures .1 (rangeOf l) (l .bigs) (bigs .by-way) (at-bigs .bigs-of .ensures .1) .1 few in
-    c .marks-of .ensures l bigs refl zones
-    ∙ third-given _ (quotes e1) (good e1) (passed (else2 at-bigs)) (zones-few l (omega (arith, few, column-length (λ (z : Zone). z .«sup_idx») _ _ _ (zones .by-owner))))
+    let zones = at-overlap .overlap-columns .ensures .1 (rangeOf l) (l .bigs) (bigs .0 .by-way) (bigs .1) .1 few in
+    c .marks-of .ensures l (bigs .0) refl zones
+    ∙ third-given _ (quotes e1) (good e1) (passed (else2 at-overlap)) (zones-few l (omega (arith, few, column-length (λ (z : Zone). z .«sup_idx») _ _ _ (zones .by-owner))))
 
 pub bigseg-third-marks-all-zhongshu-spec : {M : Type 1} → statement M
 bigseg-third-marks-all-zhongshu-spec =
     tie.close
     (tie.spec
-    bad-chart-requires
-    refusal-requires
-    returns
-    quotes-refusal-requires
-    refusal-requires-2
-    returns-2
-    cast-m
-    cast-h
     slice-aggregate-bigs-of
     slice-aggregate-bigs-of-2
     slice-aggregate-bigs-of-3
@@ -231,6 +221,13 @@ bigseg-third-marks-all-zhongshu-spec =
     slice-aggregate-bigs-of-6
     slice-aggregate-bigs-of-7
     bigs-of-requires
+    refusal-requires
+    returns
+    quotes-refusal-requires
+    refusal-requires-2
+    returns-2
+    cast-m
+    cast-h
     slice-aggregate-overlap-columns
     slice-aggregate-overlap-columns-2
     slice-aggregate-overlap-columns-3

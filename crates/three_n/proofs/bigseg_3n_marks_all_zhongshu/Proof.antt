@@ -3,7 +3,6 @@ use native.Mathlib.Omega.{arith}
 use mathlib.Core.Path.{_≡_, refl, sym, _∙_}
 use mathlib.Core.Bool.{false}
 use borrow.Author.Needs.{needs}
-use Rattle.chart.specs.declared.Chart.{Chart}
 use Rattle.chart.specs.declared.Zone.{Zone}
 use Rattle.rules.specs.Records.{levelsOf, Quotes}
 use Rattle.rules.specs.Ranges.{rangeOf}
@@ -21,11 +20,14 @@ use Rattle.three_n.proofs.bigseg_3n_marks_all_zhongshu.Statement.{state
 use Rattle.three_n.proofs.bigseg_3n_marks_all_zhongshu.Tie as tie
 
 abbrev start : tie.Else1 → tie.Start
-start c = c .before .before .before .before
+start c = c .before .before .before .before .before .before .before .before .before .before .before .before .before .before .before .before .before .before
+
+abbrev at-bigs : tie.Else1 → tie.After-bigs-of
+at-bigs c = c .before .before .before .before .before .before .before .before
 
 -- the chart is not refused with 21
 good : (c : tie.Else1) → badChart (start c .args .chart) ≡ false
-good c = sym (c .before .bad-chart .ensures) ∙ c .if1 .left
+good c = sym (at-bigs c .bigs-of .ensures .0) ∙ c .if1 .left
 
 counts : (c : tie.Else1) → Counted (start c .args .chart)
 counts c = counted _ (good c)
@@ -48,22 +50,42 @@ within : (c : tie.Else3) → endsOutside (levelsOf (start (else1 (else2 c)) .arg
 unfolding endsOutside levelsOf
 within c = sym (c .before .ends-outside .ensures) ∙ c .if3 .left
 
-abbrev else3 : tie.After-bigs-of → tie.Else3
-else3 c = c .before .before .before .before .before .before .before .before .before .before .before
+abbrev else3 : tie.After-overlap-columns → tie.Else3
+else3 c = c .before .before .before .before .before .before .before .before .before .before .before .before .before .before
 
-abbrev chart-of : tie.After-bigs-of → Chart
-chart-of c = start (else1 (else2 (else3 c))) .args .chart
+abbrev first : tie.After-overlap-columns → tie.Else1
+first c = else1 (else2 (else3 c))
 
-bad-chart-requires : tie.Need-bad-chart-requires
-bad-chart-requires c κs = search needs
+slice-aggregate-bigs-of : tie.Need-slice-aggregate-bigs-of
+slice-aggregate-bigs-of c = search needs
+
+slice-aggregate-bigs-of-2 : tie.Need-slice-aggregate-bigs-of-2
+slice-aggregate-bigs-of-2 c = search needs
+
+slice-aggregate-bigs-of-3 : tie.Need-slice-aggregate-bigs-of-3
+slice-aggregate-bigs-of-3 c = search needs
+
+slice-aggregate-bigs-of-4 : tie.Need-slice-aggregate-bigs-of-4
+slice-aggregate-bigs-of-4 c = search needs
+
+slice-aggregate-bigs-of-5 : tie.Need-slice-aggregate-bigs-of-5
+slice-aggregate-bigs-of-5 c = search needs
+
+slice-aggregate-bigs-of-6 : tie.Need-slice-aggregate-bigs-of-6
+slice-aggregate-bigs-of-6 c = search needs
+
+slice-aggregate-bigs-of-7 : tie.Need-slice-aggregate-bigs-of-7
+slice-aggregate-bigs-of-7 c = search needs
+
+bigs-of-requires : tie.Need-bigs-of-requires
+bigs-of-requires c κs = (refl, refl, refl, refl, refl, refl, refl)
 
 refusal-requires : tie.Need-refusal-requires
 refusal-requires c κs = search needs
 
 returns : tie.Need-returns
 returns c =
-    let at-bad = c .before .before in
-    c .refusal .ensures ∙ n-bad _ _ (sym (at-bad .bad-chart .ensures) ∙ c .before .if1 .taken)
+    c .refusal .ensures ∙ n-bad _ _ (sym (c .before .before .before .before .before .before .before .before .before .bigs-of .ensures .0) ∙ c .before .if1 .taken)
 
 quotes-refusal-requires : tie.Need-quotes-refusal-requires
 quotes-refusal-requires c κs = search needs
@@ -99,32 +121,6 @@ cast-m c = search needs
 cast-h : tie.Need-cast-h
 cast-h c = search needs
 
-slice-aggregate-bigs-of : tie.Need-slice-aggregate-bigs-of
-slice-aggregate-bigs-of c = search needs
-
-slice-aggregate-bigs-of-2 : tie.Need-slice-aggregate-bigs-of-2
-slice-aggregate-bigs-of-2 c = search needs
-
-slice-aggregate-bigs-of-3 : tie.Need-slice-aggregate-bigs-of-3
-slice-aggregate-bigs-of-3 c = search needs
-
-slice-aggregate-bigs-of-4 : tie.Need-slice-aggregate-bigs-of-4
-slice-aggregate-bigs-of-4 c = search needs
-
-slice-aggregate-bigs-of-5 : tie.Need-slice-aggregate-bigs-of-5
-slice-aggregate-bigs-of-5 c = search needs
-
-slice-aggregate-bigs-of-6 : tie.Need-slice-aggregate-bigs-of-6
-slice-aggregate-bigs-of-6 c = search needs
-
-slice-aggregate-bigs-of-7 : tie.Need-slice-aggregate-bigs-of-7
-slice-aggregate-bigs-of-7 c = search needs
-
-bigs-of-requires : tie.Need-bigs-of-requires
-bigs-of-requires c κs =
-    let n = counts (else1 (else2 (c .before .before .before .before .before .before .before .before .before .before))) in
-    ((n .strokes, n .segments, n .bigs), (refl, refl, refl, refl, refl, refl, refl))
-
 slice-aggregate-overlap-columns : tie.Need-slice-aggregate-overlap-columns
 slice-aggregate-overlap-columns c = search needs
 
@@ -157,10 +153,13 @@ slice-aggregate-overlap-columns-10 c = search needs
 
 overlap-columns-requires : tie.Need-overlap-columns-requires
 overlap-columns-requires c κs =
-    let at-bigs = c .before .before .before .before .before .before .before .before .before .before .before .before .before .before .before .before .before in
-    let n = counts (else1 (else2 (else3 at-bigs))) in
-    let bigs = at-bigs .bigs-of .ensures .0 in
-    ((n .superiors, n .bigs, bigs .by-way .long, bigs .by-start .long, bigs .by-end .long, search needs, search needs), (refl, refl, refl, refl, refl))
+    let e1 = else1 (else2 (c .before .before .before .before .before .before .before .before .before .before .before .before .before)) in
+    let n = counts e1 in
+    let bigs = at-bigs e1 .bigs-of .ensures .1 (e1 .if1 .left) .0 in
+    let kept = at-bigs e1 .bigs-of .kept in (
+      (n .superiors, n .bigs, bigs .by-way .long, bigs .by-start .long, bigs .by-end .long, omega (arith, n .bigs, kept .1 .1 .1 .1 .0), omega (arith, n .bigs, kept .1 .1 .1 .1 .1 .0)),
+      (refl, refl, refl, refl, refl),
+    )
 
 refusal-requires-4 : tie.Need-refusal-requires-4
 refusal-requires-4 c κs = search needs
@@ -169,11 +168,11 @@ returns-4 : tie.Need-returns-4
 unfolding levelsOf overlapZones
 returns-4 c =
     let at-overlap = c .before .before .before .before .before .before .before in
-    let at-bigs = at-overlap .before .before .before .before .before .before .before .before .before .before .before .before .before .before .before .before .before .before in
-    let e3 = else3 at-bigs in
-    let e1 = else1 (else2 e3) in
-    let l = levelsOf (chart-of at-bigs) in
-    let found = at-overlap .overlap-columns .ensures .1 (rangeOf l) (l .bigs) (at-bigs .bigs-of .ensures .0 .by-way) (at-bigs .bigs-of .ensures .1) in
+    let e3 = else3 at-overlap in
+    let e1 = first at-overlap in
+    let l = levelsOf (start e1 .args .chart) in
+    let bigs = at-bigs e1 .bigs-of .ensures .1 (e1 .if1 .left) in
+    let found = at-overlap .overlap-columns .ensures .1 (rangeOf l) (l .bigs) (bigs .0 .by-way) (bigs .1) in
     c .refusal4 .ensures
     ∙ n-many _ (quotes e1) (good e1) (passed (else2 e3)) (within e3) 11 (zones-many l (found .0 (c .before .if4 .taken))) (λ e. omega arith)
 
@@ -193,40 +192,40 @@ slice-aggregate-marks-of-5 : tie.Need-slice-aggregate-marks-of-5
 slice-aggregate-marks-of-5 c = search needs
 
 slice-aggregate-marks-of-6 : tie.Need-slice-aggregate-marks-of-6
-slice-aggregate-marks-of-6 c = search needs
+slice-aggregate-marks-of-6 c = sym (at-bigs (first (c .before .before .before .before .before .before .before .before .before .before .before .before)) .bigs-of .kept .1 .0)
 
 slice-aggregate-marks-of-7 : tie.Need-slice-aggregate-marks-of-7
-slice-aggregate-marks-of-7 c = search needs
+slice-aggregate-marks-of-7 c = sym (at-bigs (first (c .before .before .before .before .before .before .before .before .before .before .before .before .before)) .bigs-of .kept .1 .1 .0)
 
 slice-aggregate-marks-of-8 : tie.Need-slice-aggregate-marks-of-8
-slice-aggregate-marks-of-8 c = search needs
+slice-aggregate-marks-of-8 c = sym (at-bigs (first (c .before .before .before .before .before .before .before .before .before .before .before .before .before .before)) .bigs-of .kept .1 .1 .1 .0)
 
 slice-aggregate-marks-of-9 : tie.Need-slice-aggregate-marks-of-9
-slice-aggregate-marks-of-9 c = search needs
+slice-aggregate-marks-of-9 c = sym (at-bigs (first (c .before .before .before .before .before .before .before .before .before .before .before .before .before .before .before)) .bigs-of .kept .1 .1 .1 .1 .1 .1 .0)
 
 slice-aggregate-marks-of-10 : tie.Need-slice-aggregate-marks-of-10
-slice-aggregate-marks-of-10 c = search needs
+slice-aggregate-marks-of-10 c = sym (at-bigs (first (c .before .before .before .before .before .before .before .before .before .before .before .before .before .before .before .before)) .bigs-of .kept .1 .1 .1 .1 .1 .1 .1 .0)
 
 marks-of-requires : tie.Need-marks-of-requires
 unfolding levelsOf overlapZones
 marks-of-requires c κs =
     let e4 = c .before .before .before .before .before .before .before .before .before .before in
     let at-overlap = e4 .before .before .before .before .before .before in
-    let at-bigs = at-overlap .before .before .before .before .before .before .before .before .before .before .before .before .before .before .before .before .before .before in
-    let e3 = else3 at-bigs in
-    let chart = chart-of at-bigs in
+    let e3 = else3 at-overlap in
+    let e1 = first at-overlap in
+    let chart = start e1 .args .chart in
     let l = levelsOf chart in
-    let n = counts (else1 (else2 e3)) in
+    let n = counts e1 in
     let fit = quotes-fit _ _ (passed (else2 e3)) in
-    let bigs = at-bigs .bigs-of .ensures .0 in
+    let bigs = at-bigs e1 .bigs-of .ensures .1 (e1 .if1 .left) in
     let few = e4 .if4 .left in
-    let zones = at-overlap .overlap-columns .ensures .1 (rangeOf l) (l .bigs) (bigs .by-way) (at-bigs .bigs-of .ensures .1) .1 few in (
+    let zones = at-overlap .overlap-columns .ensures .1 (rangeOf l) (l .bigs) (bigs .0 .by-way) (bigs .1) .1 few in (
       (few, n .superiors, n .bigs, fit .0, fit .1),
       (
-        (bigs .by-way .long, bigs .by-start .long, bigs .by-end .long, bigs .by-point .long, omega (arith, slice-aggregate-marks-of-10 c, n .bigs)),
+        (bigs .0 .by-way .long, bigs .0 .by-start .long, bigs .0 .by-end .long, bigs .0 .by-point .long, omega (arith, slice-aggregate-marks-of-10 c, n .bigs)),
         (
           (zones .by-owner .long, zones .by-start .long, zones .by-end .long, zones .by-low .long, zones .by-high .long, owners-below _ _ _ _ (zones-own chart) (zones .by-owner)),
-          (l, record { bigs = bigs; level = refl; zones = zones; inside = ends-inside l _ (within e3) (fit .2) }),
+          (l, record { bigs = bigs .0; level = refl; zones = zones; inside = ends-inside l _ (within e3) (fit .2) }),
         ),
       ),
     )
@@ -236,22 +235,28 @@ unfolding levelsOf overlapZones
 returns-5 c =
     let e4 = c .before .before .before .before .before .before .before .before .before .before .before in
     let at-overlap = e4 .before .before .before .before .before .before in
-    let at-bigs = at-overlap .before .before .before .before .before .before .before .before .before .before .before .before .before .before .before .before .before .before in
-    let e3 = else3 at-bigs in
-    let e1 = else1 (else2 e3) in
-    let l = levelsOf (chart-of at-bigs) in
+    let e3 = else3 at-overlap in
+    let e1 = first at-overlap in
+    let l = levelsOf (start e1 .args .chart) in
     let fit = quotes-fit _ _ (passed (else2 e3)) in
-    let bigs = at-bigs .bigs-of .ensures .0 in
+    let bigs = at-bigs e1 .bigs-of .ensures .1 (e1 .if1 .left) in
     let few = e4 .if4 .left in
-    let zones = at-overlap .overlap-columns .ensures .1 (rangeOf l) (l .bigs) (bigs .by-way) (at-bigs .bigs-of .ensures .1) .1 few in
-    c .marks-of .ensures l (record { bigs = bigs; level = refl; zones = zones; inside = ends-inside l _ (within e3) (fit .2) })
+    let zones = at-overlap .overlap-columns .ensures .1 (rangeOf l) (l .bigs) (bigs .0 .by-way) (bigs .1) .1 few in
+    c .marks-of .ensures l (record { bigs = bigs .0; level = refl; zones = zones; inside = ends-inside l _ (within e3) (fit .2) })
     ∙ n-given _ (quotes e1) (good e1) (passed (else2 e3)) (within e3) (zones-few l (omega (arith, few, column-length (λ (z : Zone). z .«sup_idx») _ _ _ (zones .by-owner))))
 
 pub bigseg-3n-marks-all-zhongshu-spec : {M : Type 1} → statement M
 bigseg-3n-marks-all-zhongshu-spec =
     tie.close
     (tie.spec
-    bad-chart-requires
+    slice-aggregate-bigs-of
+    slice-aggregate-bigs-of-2
+    slice-aggregate-bigs-of-3
+    slice-aggregate-bigs-of-4
+    slice-aggregate-bigs-of-5
+    slice-aggregate-bigs-of-6
+    slice-aggregate-bigs-of-7
+    bigs-of-requires
     refusal-requires
     returns
     quotes-refusal-requires
@@ -263,14 +268,6 @@ bigseg-3n-marks-all-zhongshu-spec =
     returns-3
     cast-m
     cast-h
-    slice-aggregate-bigs-of
-    slice-aggregate-bigs-of-2
-    slice-aggregate-bigs-of-3
-    slice-aggregate-bigs-of-4
-    slice-aggregate-bigs-of-5
-    slice-aggregate-bigs-of-6
-    slice-aggregate-bigs-of-7
-    bigs-of-requires
     slice-aggregate-overlap-columns
     slice-aggregate-overlap-columns-2
     slice-aggregate-overlap-columns-3
