@@ -1,7 +1,7 @@
 -- The scan of one owner's records over columns: the zones that are put and those to come are the owner's. Assumes nothing.
 use Prim.Native.Nat.{ℕ, _+_, _≤_, _<_}
 use native.Mathlib.Omega.{arith}
-use mathlib.Core.Path.{_≡_, sym, _∙_}
+use mathlib.Core.Path.{_≡_, refl, sym, _∙_}
 use mathlib.Core.Bool.{Bool, true, false, cond}
 use mathlib.Core.List.{List, [], _∷_, _++_, map}
 use mathlib.Core.Option.{some}
@@ -17,7 +17,7 @@ use Rattle.columns.specs.Columns.{Column, Spans, rangeAt, ZoneColumns}
 use Rattle.columns.proofs.Fill.{column-at, column-length}
 use Rattle.zones.specs.declared.Step.{Step}
 use Rattle.zones.specs.Scan.{scanned}
-use Rattle.zones.proofs.Laws.{Turned, still, still-more, still-none, scans}
+use Rattle.zones.proofs.Laws.{Turned, turn-same, still, still-more, still-none, scans}
 use Rattle.overlaps.specs.Filled.{Long, Filled}
 use Rattle.overlaps.proofs.Held.{Holds, holds-from, holds-more, holds-full, holds-all}
 
@@ -109,6 +109,10 @@ module _
       pub turn-full : r .closed ≡ true → count ≡ 256 → Gives 257 o s e l g
       turn-full f p m range members zs inside c spans held =
           holds-full count o s e l g z (onward range members) (zs ++ zones range members) p (turned true f m range members zs inside c spans held)
+
+    -- a record of the owner's own direction is passed over, as a turn on it is, whatever its range
+    pub turn-past : i ≤ last → getD ways i 0 ≡ d → Among count o s e l g b z (i + 1)
+    turn-past more same = turn-on more _ refl (record { run = z; begun = b; closed = false }) (turn-same h d i z b (getD ways i 0) _ same) refl
 
     -- the records are through: a run that is under way is a zone
     module _ (past : last < i) where

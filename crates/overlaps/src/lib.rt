@@ -90,6 +90,10 @@ fn owner_zones(
     let mut begun = false;
     let mut at = first;
     while at <= last {
+        if ways[at] == direction {
+            at += 1;
+            continue;
+        }
         let range = range_at(starts[at], ends[at], lows[at], highs[at]);
         let next = zones::turn(run, begun, h, direction, at as u16, ways[at], range);
         let before = run;

@@ -5,7 +5,7 @@ use Prim.Native.Nat.{_+_, _-_}
 use mathlib.Core.Path.{refl}
 use borrow.Author.Needs.{needs}
 use borrow.Author.Tests.{not-true, not-false}
-use Rattle.overlaps.proofs.Owner.{Among, starts-scan, turn-on, turn-puts, turn-full, ends-on, ends-puts, ends-full}
+use Rattle.overlaps.proofs.Owner.{Among, starts-scan, turn-on, turn-puts, turn-full, turn-past, ends-on, ends-puts, ends-full}
 use Rattle.overlaps.proofs.owner_zones.Statement.{statement}
 use Rattle.overlaps.proofs.owner_zones.Tie as tie
 
@@ -22,7 +22,7 @@ abbrev start : tie.At-loop Inv-loop μ-loop → tie.Start Inv-loop μ-loop
 start c = c .before .before .before .before .before .before .before .before .before .before .before
 
 abbrev in-loop : tie.After-turn Inv-loop μ-loop → tie.In-loop Inv-loop μ-loop
-in-loop c = c .before .before .before .before .before .before .before
+in-loop c = c .before .before .before .before .before .before .before .before .before
 
 abbrev turn-of : tie.After-put-zone Inv-loop μ-loop → tie.After-turn Inv-loop μ-loop
 turn-of c = c .before .before .before .before .before .before .before .before .before .before
@@ -34,6 +34,20 @@ loop-holds : tie.Need-loop-holds Inv-loop μ-loop
 loop-holds c =
     let start = c .before .before .before .before .before .before .before .before .before .before in
     starts-scan _ _ _ _ _ _ _ _ _ _ _ _ _ _ _ _ refl (omega (arith, start .pre .0)) (start .pre .1)
+
+shared-slice-read-if1 : tie.Need-shared-slice-read-if1 Inv-loop μ-loop
+shared-slice-read-if1 c = search needs
+
+add-at : tie.Need-add-at Inv-loop μ-loop
+add-at c = search needs
+
+loop-less : tie.Need-loop-less Inv-loop μ-loop
+loop-less c = search needs
+
+loop-again : tie.Need-loop-again Inv-loop μ-loop
+loop-again c =
+    let in-turn = c .before .before in
+    turn-past _ _ _ _ _ _ _ _ _ _ _ _ _ _ _ _ _ _ _ _ _ _ _ _ (in-turn .before .loop .inv) (in-turn .loop-test .taken) (c .if1 .taken)
 
 mul-range-at : tie.Need-mul-range-at Inv-loop μ-loop
 mul-range-at c = search needs
@@ -71,20 +85,20 @@ shared-slice-read-turn c = search needs
 turn-requires : tie.Need-turn-requires Inv-loop μ-loop
 turn-requires c κs = search needs
 
-add-at : tie.Need-add-at Inv-loop μ-loop
-add-at c =
+add-at-2 : tie.Need-add-at-2 Inv-loop μ-loop
+add-at-2 c =
     let in-turn = in-loop (c .before) in
     omega (arith, in-turn .loop-test .taken, start (in-turn .before) .pre .0)
 
-loop-less : tie.Need-loop-less Inv-loop μ-loop
-loop-less c = search needs
+loop-less-2 : tie.Need-loop-less-2 Inv-loop μ-loop
+loop-less-2 c = search needs
 
-loop-again : tie.Need-loop-again Inv-loop μ-loop
-loop-again c =
+loop-again-2 : tie.Need-loop-again-2 Inv-loop μ-loop
+loop-again-2 c =
     let turn = c .before .before .before in
     let in-turn = in-loop turn in
     turn-on _ _ _ _ _ _ _ _ _ _ _ _ _ _ _ _ _ _ _ _ _ _ _ _ (in-turn .before .loop .inv) (in-turn .loop-test .taken) _ (range-of turn .range-at .ensures) (turn .turn .result) (turn .turn .ensures)
-    (not-true _ (c .if1 .taken))
+    (not-true _ (c .if2 .taken))
 
 same-length : tie.Need-same-length Inv-loop μ-loop
 same-length c =
@@ -118,7 +132,7 @@ returns c =
     let inv = in-turn .before .loop .inv in (
       (omega arith, inv .long),
       turn-full _ _ _ _ _ _ _ _ _ _ _ _ _ _ _ _ _ _ _ _ _ _ _ _ inv (in-turn .loop-test .taken) _ (range-of turn .range-at .ensures) (turn .turn .result) (turn .turn .ensures)
-          (not-false _ (c .before .if1 .left)) (c .if2 .taken),
+          (not-false _ (c .before .if2 .left)) (c .if3 .taken),
     )
 
 put-zone-requires : tie.Need-put-zone-requires Inv-loop μ-loop
@@ -128,21 +142,21 @@ add-count : tie.Need-add-count Inv-loop μ-loop
 add-count c =
     let put = c .before .before .before .before .before .before .before .before .before .before in
     let inv = in-loop (turn-of put) .before .loop .inv in
-    omega (arith, inv .few, put .before .before .before .before .before .before .if2 .left)
+    omega (arith, inv .few, put .before .before .before .before .before .before .if3 .left)
 
-loop-less-2 : tie.Need-loop-less-2 Inv-loop μ-loop
-loop-less-2 c =
+loop-less-3 : tie.Need-loop-less-3 Inv-loop μ-loop
+loop-less-3 c =
     let put = c .before .before .before .before .before .before .before .before .before .before in
     omega (arith, in-loop (turn-of put) .loop-test .taken)
 
-loop-again-2 : tie.Need-loop-again-2 Inv-loop μ-loop
-loop-again-2 c =
+loop-again-3 : tie.Need-loop-again-3 Inv-loop μ-loop
+loop-again-3 c =
     let put = c .before .before .before .before .before .before .before .before .before .before in
     let chosen = put .before .before .before .before .before .before in
     let turn = turn-of put in
     let in-turn = in-loop turn in
     turn-puts _ _ _ _ _ _ _ _ _ _ _ _ _ _ _ _ _ _ _ _ _ _ _ _ (in-turn .before .loop .inv) (in-turn .loop-test .taken) _ (range-of turn .range-at .ensures) (turn .turn .result) (turn .turn .ensures)
-    _ _ _ _ _ (not-false _ (chosen .before .if1 .left)) (chosen .if2 .left) (put .put-zone .ensures .0) (put .put-zone .ensures .1)
+    _ _ _ _ _ (not-false _ (chosen .before .if2 .left)) (chosen .if3 .left) (put .put-zone .ensures .0) (put .put-zone .ensures .1)
 
 same-length-6 : tie.Need-same-length-6 Inv-loop μ-loop
 same-length-6 c = search needs
@@ -163,7 +177,7 @@ returns-2 : tie.Need-returns-2 Inv-loop μ-loop
 returns-2 c =
     let head = c .before .before in
     let inv = head .loop .inv in
-    ((omega arith, inv .long), ends-on _ _ _ _ _ _ _ _ _ _ _ _ _ _ _ _ _ _ _ _ _ _ _ _ inv (c .before .loop-test .left) (not-true _ (c .if3 .taken)))
+    ((omega arith, inv .long), ends-on _ _ _ _ _ _ _ _ _ _ _ _ _ _ _ _ _ _ _ _ _ _ _ _ inv (c .before .loop-test .left) (not-true _ (c .if4 .taken)))
 
 same-length-11 : tie.Need-same-length-11 Inv-loop μ-loop
 same-length-11 c = search needs
@@ -184,7 +198,7 @@ returns-3 : tie.Need-returns-3 Inv-loop μ-loop
 returns-3 c =
     let head = c .before .before .before in
     let inv = head .loop .inv in
-    ((omega arith, inv .long), ends-full _ _ _ _ _ _ _ _ _ _ _ _ _ _ _ _ _ _ _ _ _ _ _ _ inv (c .before .before .loop-test .left) (not-false _ (c .before .if3 .left)) (c .if4 .taken))
+    ((omega arith, inv .long), ends-full _ _ _ _ _ _ _ _ _ _ _ _ _ _ _ _ _ _ _ _ _ _ _ _ inv (c .before .before .loop-test .left) (not-false _ (c .before .if4 .left)) (c .if5 .taken))
 
 put-zone-requires-2 : tie.Need-put-zone-requires-2 Inv-loop μ-loop
 put-zone-requires-2 c κs = search needs
@@ -214,7 +228,7 @@ returns-4 c =
     let ended = chosen .before .before in
     let inv = ended .before .loop .inv in (
       (omega (arith, inv .few), put .put-zone2 .ensures .0),
-      ends-puts _ _ _ _ _ _ _ _ _ _ _ _ _ _ _ _ _ _ _ _ _ _ _ _ inv (ended .loop-test .left) _ _ _ _ _ (not-false _ (chosen .before .if3 .left)) (chosen .if4 .left) (put .put-zone2 .ensures .1),
+      ends-puts _ _ _ _ _ _ _ _ _ _ _ _ _ _ _ _ _ _ _ _ _ _ _ _ inv (ended .loop-test .left) _ _ _ _ _ (not-false _ (chosen .before .if4 .left)) (chosen .if5 .left) (put .put-zone2 .ensures .1),
     )
 
 pub owner-zones-spec : {M : Type 1} → statement M
@@ -224,6 +238,10 @@ owner-zones-spec =
     Inv-loop
     μ-loop
     loop-holds
+    shared-slice-read-if1
+    add-at
+    loop-less
+    loop-again
     mul-range-at
     shared-slice-read-range-at
     mul-range-at-2
@@ -236,9 +254,9 @@ owner-zones-spec =
     cast-turn
     shared-slice-read-turn
     turn-requires
-    add-at
-    loop-less
-    loop-again
+    add-at-2
+    loop-less-2
+    loop-again-2
     same-length
     same-length-2
     same-length-3
@@ -247,8 +265,8 @@ owner-zones-spec =
     returns
     put-zone-requires
     add-count
-    loop-less-2
-    loop-again-2
+    loop-less-3
+    loop-again-3
     same-length-6
     same-length-7
     same-length-8
