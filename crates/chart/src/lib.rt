@@ -62,27 +62,29 @@ pub enum Ground {
     Anchor(f64),
 }
 
+// The marks. Their fields stand in an order that leaves little room between them, so that rows are small.
+
 // A third mark. is_buy is its side: an up leave is a buy, and its price is the lent low; a sell's is the lent high. (BigSegThirdMarker)
 pub struct ThirdMark {
     pub bar_index: u16,
-    pub price: f64,
     pub is_buy: bool,
+    pub price: f64,
     pub ground: Ground,
 }
 
 // A 3+N mark. A third mark has order 0. (BigSeg3NMarker)
 pub struct NMark {
     pub bar_index: u16,
-    pub price: f64,
     pub is_buy: bool,
     pub order: u32,
+    pub price: f64,
 }
 
 // A first mark of a side, at the end bar and the end price of a class. (BigSegFirstMarker)
 pub struct FirstMark {
     pub bar_index: u16,
-    pub price: f64,
     pub is_buy: bool,
+    pub price: f64,
 }
 
 // A class of segments or of bigs: the indices of its first and last item, its direction, whether it is by case 3 (or else by case 2),

@@ -268,9 +268,9 @@ pub fn number_bars(
 
 // The answer of the 3+N call: a number, and where it is 0 the first `count` rows.
 pub struct NRows {
+    pub rows: [NMark; 512],
     pub number: u8,
     pub count: u16,
-    pub rows: [NMark; 512],
 }
 
 // The low for buys, the high for sells, at a bar inside the slices.
