@@ -71,51 +71,79 @@ fn place(i: u32) -> usize
     (i % 256 * 2 + 1) as usize
 }
 
-// The sum, modulo 65,536, with the number of rows of an answer and a bar of its middle row, so that the compiler leaves no row out.
-fn added(sum: u16, count: u16, bar: u16) -> u16 {
+// The number of rows of an answer and a bar of its middle row, modulo 65,536, so that the compiler leaves no row out.
+fn value_of(count: u16, bar: u16) -> u16 {
     if count == 0 {
-        return sum;
+        return 0;
     }
-    std::num::wrapping_add_u16(sum, std::num::wrapping_add_u16(count, bar))
+    std::num::wrapping_add_u16(count, bar)
 }
 
-// The sum of so many turns of a call, a function for each, so that no call is merged with another. A turn changes the start price of a
-// stroke, so that none is taken out of the loop, and hands over the chart by value.
+// A turn of each call, which is handed the chart by value: a function for each, so that no call is merged with another.
+fn zones_turn(chart: Chart) -> u16 {
+    let found = zones::detect_bigseg_zhongshus_by_overlap(chart);
+    let m = printing::shown(found.count, 256) / 2;
+    let rows = found.rows;
+    value_of(found.count, rows[m].start_bar)
+}
+
+fn third_turn(chart: Chart, highs: &[f64], lows: &[f64]) -> u16 {
+    let found = third::bigseg_third_marks_all_zhongshu(chart, highs, lows);
+    let m = printing::shown(found.count, 512) / 2;
+    let rows = found.rows;
+    value_of(found.count, rows[m].bar_index)
+}
+
+fn threen_turn(chart: Chart, highs: &[f64], lows: &[f64]) -> u16 {
+    let found = three_n::bigseg_3n_marks_all_zhongshu(chart, highs, lows);
+    let m = printing::shown(found.count, 512) / 2;
+    let rows = found.rows;
+    value_of(found.count, rows[m].bar_index)
+}
+
+// The sum of so many turns of a call, modulo 65,536. Before each the start price of a stroke is changed, so that no turn is taken out of the
+// loop. The first turn stands before the loop: what is called at two places stays a function, and shares no stack frame with the other calls.
 fn zones_sum(start: Chart, turns: u32) -> u16 {
+    if turns == 0 {
+        return 0;
+    }
     let mut chart = start;
-    let mut sum = 0u16;
-    for i in 0..turns {
+    chart.strokes[1].start_price = chart.strokes[1].start_price + 0.25;
+    let mut sum = zones_turn(chart);
+    for i in 1..turns {
         let k = place(i);
         chart.strokes[k].start_price = chart.strokes[k].start_price + 0.25;
-        let found = zones::detect_bigseg_zhongshus_by_overlap(chart);
-        let m = printing::shown(found.count, 256) / 2;
-        sum = added(sum, found.count, found.rows[m].start_bar);
+        sum = std::num::wrapping_add_u16(sum, zones_turn(chart));
     }
     sum
 }
 
 fn third_sum(start: Chart, highs: &[f64], lows: &[f64], turns: u32) -> u16 {
+    if turns == 0 {
+        return 0;
+    }
     let mut chart = start;
-    let mut sum = 0u16;
-    for i in 0..turns {
+    chart.strokes[1].start_price = chart.strokes[1].start_price + 0.25;
+    let mut sum = third_turn(chart, highs, lows);
+    for i in 1..turns {
         let k = place(i);
         chart.strokes[k].start_price = chart.strokes[k].start_price + 0.25;
-        let found = third::bigseg_third_marks_all_zhongshu(chart, highs, lows);
-        let m = printing::shown(found.count, 512) / 2;
-        sum = added(sum, found.count, found.rows[m].bar_index);
+        sum = std::num::wrapping_add_u16(sum, third_turn(chart, highs, lows));
     }
     sum
 }
 
 fn threen_sum(start: Chart, highs: &[f64], lows: &[f64], turns: u32) -> u16 {
+    if turns == 0 {
+        return 0;
+    }
     let mut chart = start;
-    let mut sum = 0u16;
-    for i in 0..turns {
+    chart.strokes[1].start_price = chart.strokes[1].start_price + 0.25;
+    let mut sum = threen_turn(chart, highs, lows);
+    for i in 1..turns {
         let k = place(i);
         chart.strokes[k].start_price = chart.strokes[k].start_price + 0.25;
-        let found = three_n::bigseg_3n_marks_all_zhongshu(chart, highs, lows);
-        let m = printing::shown(found.count, 512) / 2;
-        sum = added(sum, found.count, found.rows[m].bar_index);
+        sum = std::num::wrapping_add_u16(sum, threen_turn(chart, highs, lows));
     }
     sum
 }
