@@ -28,7 +28,7 @@ use Rattle.laws.proofs.Quoted.{marks-quoted}
 use Rattle.live.specs.declared.Live.{Live}
 use Rattle.live.specs.Sequence.{AsMachine}
 use Rattle.live.proofs.Chained.{sequence}
-use Rattle.promise.specs.Promise.{levelsIn, zonesIn, Thirds, ThreeN, The-promise}
+use Rattle.promise.specs.Promise.{levelsIn, zonesIn, Thirds, ThreeN, Promise, The-promise}
 use Rattle.promise.proofs.Results.{result, third-is, n-refusal, n-is}
 
 -- what holds of every one of some rows holds of each of rows that are the same
@@ -80,9 +80,9 @@ left-zones : (ks : List Call) (ns : List ℕ) (d : Live) → AsMachine ks ns d �
 unfolding zones
 left-zones ks ns d a = a .zones-are ∙ ap overlapZones (sym (a .levels-are))
 
-pub promise : The-promise
-promise b d ks ns h t =
-    let a = sequence b d ks ns h t in
+-- a chart that is as the machine's: every clause
+pub left : (ks : List Call) (ns : List ℕ) (d : Live) → AsMachine ks ns d → Promise ks ns d
+left ks ns d a =
     let l = levelsIn d in
     let o = not-21-ordered (d .chart) (d .zones) (d .«zone_count») (a .in-order) in
     let good = not-21 (d .chart) (d .zones) (d .«zone_count») (a .in-order) in
@@ -97,3 +97,6 @@ promise b d ks ns h t =
       third = third (d .chart) good o;
       three-n = three-n (d .chart) good o;
     }
+
+pub promise : The-promise
+promise b d ks ns h t = left ks ns d (sequence b d ks ns h t)

@@ -21,6 +21,9 @@ use Rattle.rules.specs.Machine.{
   addSegment,
   addBig,
   addSuperior,
+  lengthen,
+  withdraw,
+  deriveBigs,
   empty,
   refusal,
   step,
@@ -29,7 +32,7 @@ use Rattle.rules.specs.Machine.{
 }
 use Rattle.rules.specs.Live.{View, view, after}
 use Rattle.rules.proofs.Computing.{everything}
-use Rattle.rules.proofs.Charts.{zoneThird, mark}
+use Rattle.rules.proofs.Charts.{zoneThird, anchorThird, triple, mark}
 use Rattle.rules.proofs.ChartK.{K, barsOf, barsK}
 use Rattle.laws.proofs.Ordered.{InOrder, not-broken}
 use Rattle.laws.proofs.Zones.{zones-256}
@@ -176,3 +179,17 @@ built =
       no-price = refl;
       outside = refl;
     }
+
+-- every kind of call, refused ones among them, and a mark whose ground is an anchor's price
+abbrev mixing : List Call
+mixing =
+    map addStroke (K .strokes) ++ map addSegment (K .segments)
+    ++ (deriveBigs 1 ∷ withdraw 2 ∷ withdraw 2 ∷ map addBig (K .bigs)) ++ (addSuperior (triple 1 4 5) ∷ lengthen 6 ∷ lengthen 6 ∷ withdraw 9 ∷ [])
+
+record Mixed : Type 0 where
+  answers-are : _≡_ {A = List ℕ} (answers empty mixing) (replicate 18 0 ++ (7 ∷ replicate 10 0) ++ (4 ∷ 2 ∷ []))
+  third : rowsAnswer 0 1 (anchorThird true 29 26 24 ∷ []) ≡ thirdCall (liveOf (run empty mixing) .chart) (barsK 26)
+
+mixed : Mixed
+unfolding everything liveOf
+mixed = record { answers-are = refl; third = refl }
