@@ -1,4 +1,5 @@
--- What a call on a live chart does. Assumes nothing.
+-- What a call on a live chart does. Read `rules` Refusals, Machine and Live before: the head of Live says in which order they answer a call.
+-- Assumes nothing.
 use Prim.Native.Nat.{ℕ}
 use mathlib.Core.Path.{_≡_}
 use mathlib.Core.Logic.{_≢_}

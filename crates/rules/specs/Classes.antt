@@ -82,8 +82,9 @@ endsBefore items (some k) i = elim (case2 items (k .first)) [ none ↦ false | s
 
 -- ---- the walk
 
--- The walk wants up first, and a down item is tried while there is no class: so both are. After a class it wants the direction opposite to
--- that class's
+-- Whether item x is tried, k being the last class. "The walk wants up first. It tries item i if i has the wanted direction, or is down while
+-- there is no class": while there is none, an up item is wanted and a down item is tried all the same, so every item is. After a class the walk
+-- "wants the direction opposite to that class's"
 unfoldable pub wanted : Option Class → Item → Bool
 wanted none x = true
 wanted (some k) x = not (eqb (k .direction) (x .direction))
@@ -109,7 +110,9 @@ tried on items k i x =
       | false ↦ elim (case2 items i) [ none ↦ none | some e ↦ some (classAt items k i x e false) ]
     ]
 
--- The walk at item i, k being the last class: after a class it goes on behind its end, at `next`; without one it goes to i + 1
+-- The walk over the items from index i on, x being item i. `on`: whether case 3 is on; `items`: all items; `k`: the last class; `next`: the
+-- index behind that class's end. After a class the walk goes on behind its end, so items below `next` are passed over; without one it goes to
+-- i + 1
 unfoldable pub walk : Bool → List Item → Option Class → ℕ → ℕ → List Item → List Class
 walk on items k next i [] = []
 walk on items k next i (x ∷ xs) =

@@ -39,13 +39,15 @@ nameWithin (suc most) n =
 unfoldable pub colName : ℕ → List ℕ
 colName n = nameWithin (suc n) n
 
--- a superior's last named zone, and its next name
+-- the zone that was named last, and the next name of its superior
 pub record Named : Type 0 where
   pub zone : Zone
   pub next : ℕ
 
--- The name that zone z gets, where it is the first of its superior or has dd > the gg, or gg < the dd, of the superior's last named zone:
--- the superior's next, from 0. None: 扩. Zones of one superior follow each other, so another superior's named zone means z is the first
+-- The name that zone z gets, k being the zone that was named last, of whatever superior, with the next name of that superior; none: 扩.
+-- The first zone of a superior gets its name 0: the one named last is then of another superior, or there is none, since the zones of a
+-- superior follow each other and its first is always named. A later one gets the superior's next name where it has dd > the gg, or gg < the dd,
+-- of the superior's last named zone
 unfoldable pub nameOf : Option Named → Zone → Option ℕ
 nameOf none z = some 0
 nameOf (some k) z =

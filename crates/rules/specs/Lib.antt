@@ -1,4 +1,5 @@
--- The definitions of document 01, a file a section, in its order. A reader has to believe these files; all else is proved against them.
+-- The definitions of document 01, a file a section, in its order. README.md lists, under "What a reader has to believe", these files and the few
+-- of other crates that contracts rest on; all else is proved against them.
 pub mod Lists
 pub mod Answer
 pub mod Records

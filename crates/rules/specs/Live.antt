@@ -1,4 +1,7 @@
--- A live chart also keeps its overlap zones and a count of accepted calls: what its calls answer, and what they leave. Assumes nothing.
+-- A live chart also keeps its overlap zones and a count of accepted calls: what its calls answer, and what they leave.
+-- What a call answers, add stroke say, is read in this order: the conditions on one record and 21 (`Refusals`, its first two parts), the numbers
+-- of the call on lists (`Refusals.strokeRefusal`), the call's own number (`Machine.refusal`), 21 in front of it (`liveRefusal` here), and the
+-- struct of the code (crate `live`, `Did.liveAnswer`). What it leaves: `Machine.stepped`, `after` here, `Did.stepped`. Assumes nothing.
 use Prim.Native.Nat.{ℕ}
 use mathlib.Core.List.{List}
 use lib.ListN.{take}
@@ -23,7 +26,7 @@ view c places n count = record { levels = levelsOf c; zones = take n places; cou
 unfoldable pub liveRefusal : Chart → List Zone → ℕ → Call → ℕ
 liveRefusal c places n k = refuse (badLive c places n) 21 (refusal (levelsOf c) k)
 
--- what an accepted call leaves: the lists stepped, the zones of the new lists, one more in the count
+-- what an accepted call leaves: the lists stepped, the overlap rule's zones of the new lists, one more in the count
 unfoldable pub after : View → Call → View
 after v k =
     let next = stepped (v .levels) k in

@@ -19,7 +19,10 @@ use Rattle.rules.specs.Records.{isUp, Levels, Quotes}
 use Rattle.rules.specs.Ranges.{rangeOf, lastStroke, endPoint}
 use Rattle.rules.specs.Zones.{overlapZones}
 
--- ---- lent prices. A side is true for buys
+-- A side is a Boolean, named `buy`: true for buys, false for sells. A direction is a byte (`isUp`), or, where bigs are chosen by it, a Boolean
+-- named `up`. A scan's stop is a bar; where it comes from a superior it is given as the stroke that ends there, an end point.
+
+-- ---- lent prices
 
 -- the slice of a side: the lows for buys, the highs for sells
 abbrev pub side : Quotes → Bool → List Float
@@ -44,8 +47,9 @@ priceAt q buy bar = getD (side q buy) bar nan
 unfoldable pub superiorOf : Levels → Zone → Triple
 superiorOf c z = getD (c .superiors) (z .«sup_idx») (record { direction = 0; first = 0; last = 0 })
 
--- The bigs from the first of the next n whose start bar ≥ e; if none, from one past the n. A big whose range is missing has no start bar,
--- so it is never the first
+-- Start at the first big of h whose start bar ≥ z's end bar, e; if none, one past h's last. Here h's bigs are the next n, and what is
+-- given is the bigs from the start on: with none of h's left (n is zero), those behind h's last. A big whose range is missing has no start
+-- bar, so it is passed over
 unfoldable pub leaving : Levels → ℕ → ℕ → List Triple → List Triple
 leaving c e zero bs = bs
 leaving c e (suc n) [] = []
@@ -61,22 +65,23 @@ reachesZone zs z bar =
     (λ (y : Zone). not (eqb (y .«sup_idx») (z .«sup_idx»)) && ltb (z .«end_bar») (y .«start_bar») && leb (y .«start_bar») bar)
     zs
 
--- a superior's last stroke, taken where first ≤ last, last is a big and its last stroke exists
+-- a superior's end, as the stroke that ends there: taken where first ≤ last, last is a big and its last stroke exists
 unfoldable pub superiorEnd : Levels → Triple → Option Stroke
 superiorEnd c s = cond (leb (s .first) (s .last)) (endPoint c (s .last)) none
 
--- the stroke with the first end bar greater than z's end among superiors after h of opposite direction
+-- the first end bar greater than z's end among superiors after h of opposite direction, as the stroke that ends there
 unfoldable pub reversal : Levels → Zone → Option Stroke
 reversal c z =
     find (λ (s : Stroke). ltb (z .«end_bar») (s .«end_bar»))
     (collect (superiorEnd c)
     (keep (λ (s : Triple). not (eqb (s .direction) (superiorOf c z .direction))) (drop (suc (z .«sup_idx»)) (c .superiors))))
 
--- a bar ≥ the end bar of a stroke, if there is one
+-- a bar ≥ the end bar of such a stroke, if there is one
 unfoldable pub reaches : Option Stroke → ℕ → Bool
 reaches none bar = false
 reaches (some s) bar = leb (s .«end_bar») bar
 
+-- a bar at which zone z's scan stops: ≥ that start bar, or ≥ that end bar
 unfoldable pub stops : Levels → List Zone → Zone → ℕ → Bool
 stops c zs z bar = reachesZone zs z bar || reaches (reversal c z) bar
 
@@ -130,17 +135,17 @@ unfoldable pub anchorSide : List Triple → Bool
 anchorSide [] = true
 anchorSide (s ∷ ss) = isUp (s .direction)
 
--- the last strokes of the bigs of a direction (true: up) with an end point, in index order, that end after a bar
+-- the last strokes of the bigs of a direction that have an end point, in index order, and end after a bar
 unfoldable pub endsAfter : Levels → Bool → ℕ → List Stroke
 endsAfter c up bar =
     keep (λ (s : Stroke). ltb bar (s .«end_bar»))
     (collect (lastStroke c) (keep (λ (b : Triple). Bool·beq (isUp (b .direction)) up) (c .bigs)))
 
--- C is the end price of the first up big ending after the anchor; sells: down
+-- C is the end price of the first up big ending after the anchor; sells: down. So the bigs have the direction of the side
 unfoldable pub anchorPrice : Levels → Bool → Stroke → Option Float
 anchorPrice c buy a = elim (endsAfter c buy (a .«end_bar»)) [ [] ↦ none | s ∷ ss ↦ some (s .«end_price») ]
 
--- the end bars of the down bigs ending after the anchor; sells: up
+-- the end bars of the down bigs ending after the anchor; sells: up. So the bigs have the other direction
 unfoldable pub anchorBars : Levels → Bool → Stroke → List ℕ
 anchorBars c buy a = map (λ (s : Stroke). s .«end_bar») (endsAfter c (not buy) (a .«end_bar»))
 
@@ -210,7 +215,7 @@ superiorsNumbered c q zs thirds h [] = []
 superiorsNumbered c q zs thirds h (s ∷ ss) =
     superiorNumbered c q zs thirds h (isUp (s .direction)) ++ superiorsNumbered c q zs thirds (suc h) ss
 
--- the end point of the big that the last of the first down superior (sells: up) names, if there is one
+-- the end point of the big that the last of the first down superior (sells: up) names, if there is one: the stroke that ends there
 unfoldable pub anchorStop : Levels → Bool → Option Stroke
 anchorStop c buy =
     andThen (find (λ (s : Triple). not (Bool·beq (isUp (s .direction)) buy)) (c .superiors)) (λ (s : Triple). endPoint c (s .last))

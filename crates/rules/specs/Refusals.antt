@@ -92,7 +92,7 @@ brokenLevels c =
     || brokenTriples (length (c .segments)) none (c .bigs)
     || brokenTriples (length (c .bigs)) none (c .superiors)
 
--- or kept zones other than the overlap rule's: zones are the same where each field is, as data, so that a NaN or -0 is never a price
+-- or kept zones other than the overlap rule's: two zones are the same where each field of one equals that of the other, prices bit for bit
 unfoldable pub samePrice : Float → Float → Bool
 samePrice a b = eqb (toBits binary64 a) (toBits binary64 b)
 
@@ -138,13 +138,14 @@ unfoldable pub held : Option Triple → ℕ → Bool
 held none n = false
 held (some t) n = eqb (suc (t .last)) n
 
--- Withdraw (level 0 strokes to 3 superiors): 2 level above 3; 7 level empty; 6 the record is the last of the level above's last record
+-- Withdraw (level 0 strokes to 3 superiors): 2 level above 3; 7 level empty; 6 the record is the last of the level above's last record. Nothing
+-- stands above superiors, so these have no 6
 unfoldable pub withdrawRefusal : Levels → ℕ → ℕ
+withdrawRefusal c (suc (suc (suc (suc n)))) = 2
 withdrawRefusal c zero = refuse (isEmpty (c .strokes)) 7 (refuse (held (getLast? (c .segments)) (length (c .strokes))) 6 0)
 withdrawRefusal c (suc zero) = refuse (isEmpty (c .segments)) 7 (refuse (held (getLast? (c .bigs)) (length (c .segments))) 6 0)
 withdrawRefusal c (suc (suc zero)) = refuse (isEmpty (c .bigs)) 7 (refuse (held (getLast? (c .superiors)) (length (c .bigs))) 6 0)
 withdrawRefusal c (suc (suc (suc zero))) = refuse (isEmpty (c .superiors)) 7 0
-withdrawRefusal c (suc (suc (suc (suc n)))) = 2
 
 -- Derive into a level: 2 case-3 byte above 1; 6 level not empty
 unfoldable pub deriveRefusal : List Triple → ℕ → ℕ
@@ -182,7 +183,9 @@ endsOutside c q = any (λ (s : Stroke). leb (length (q .highs)) (s .«end_bar»)
 unfoldable pub nRefusal : Levels → Quotes → ℕ
 nRefusal c q = refuse (badSlices q) 8 (refuse (badQuotes q) 1 (refuse (endsOutside c q) 9 (zonesRefusal c)))
 
--- 10 two items or more and one of them lacks its first or last stroke or, for bigs, its first or last segment
+-- 10 two items or more and one of them lacks its first or last stroke or, for bigs, its first or last segment. f is `Classes.segmentItem` or
+-- `bigItem`: the first is none where the segment's first or its last stroke is not there; the second where the big's first or last segment is
+-- not there, or the first stroke of that first or the last stroke of that last segment
 unfoldable pub lacks : {A : Type 0} → (Triple → Option A) → List Triple → Bool
 lacks f ts = ltb 1 (length ts) && any (λ (t : Triple). isNone (f t)) ts
 

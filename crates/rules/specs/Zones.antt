@@ -1,5 +1,6 @@
--- Zones. The overlap rule is stated for owners over the records of a level, whatever the range of such a record is; the zones of a chart
--- are those of its superiors over its bigs. Assumes nothing.
+-- Zones of superiors over bigs, by 01's overlap rule. The rule asks of a superior only its direction, first and last, and of a big only its
+-- direction and range; so it is stated for owners over the records of any level, with the range as a parameter. Read "superior" for owner,
+-- "bigs" for level and "big" for record: at the end, `overlapZones` is the rule for these. Assumes nothing.
 use Prim.Native.Nat.{ℕ, suc, _-_}
 use mathlib.Core.Bool.{Bool, true, false, cond, _&&_}
 use mathlib.Core.List.{List, [], _∷_, _++_, map}
@@ -17,12 +18,12 @@ use Rattle.rules.specs.Lists.{keep}
 use Rattle.rules.specs.Records.{Levels}
 use Rattle.rules.specs.Ranges.{rangeOf}
 
--- an opposing record: its index in its level, and what it covers
+-- an opposing big: its index among the bigs, and its range, which is not missing
 pub record Member : Type 0 where
   pub index : ℕ
   pub span : Span
 
--- The opposing records among some of a level, the first of which has index j: direction differs from d, the owner's; range not missing
+-- The opposing bigs among some, the first of which has index j: direction differs from d, the superior's; range not missing
 unfoldable pub opposing : (Triple → Range) → ℕ → ℕ → List Triple → List Member
 opposing range d j [] = []
 opposing range d j (b ∷ bs) =
@@ -34,7 +35,7 @@ opposing range d j (b ∷ bs) =
 
 -- ---- runs
 
--- a run of one, of owner h, is a zone with zd = dd = low, zg = gg = high
+-- a run of one, of superior h, is a zone with zd = dd = low, zg = gg = high
 unfoldable pub begin : ℕ → Member → Zone
 begin h m =
     record {
@@ -49,14 +50,14 @@ begin h m =
       members = 1;
     }
 
--- The next one joins a run of one when max of lows < min of highs; it joins a longer run when low ≤ zg and high ≥ zd
+-- The next opposing big joins a run of one when max of lows < min of highs; it joins a longer run when low ≤ zg and high ≥ zd
 unfoldable pub joins : Zone → Span → Bool
 joins z s =
     cond (eqb (z .members) 1)
     (lt (higher (z .zd) (s .low)) (lower (z .zg) (s .high)))
     (le (s .low) (z .zg) && le (z .zd) (s .high))
 
--- Joining a run of one, max of lows and min of highs become zd and zg, for good. Joining moves the end bar and widens dd, gg
+-- Where it joins a run of one, max of lows and min of highs become zd and zg, for good. Joining moves the end bar and widens dd, gg
 unfoldable pub join : Zone → Span → Zone
 join z s =
     record {
@@ -71,37 +72,37 @@ join z s =
       members = suc (z .members);
     }
 
--- the zones of a run z that is under way and of the members that follow: one that does not join begins the next run
+-- the zones of a run z that is under way and of the opposing bigs that follow: one that does not join begins the next run
 unfoldable pub cut : Zone → List Member → List Zone
 cut z [] = z ∷ []
 cut z (m ∷ ms) = elim (joins z (m .span)) [ true ↦ cut (join z (m .span)) ms | false ↦ z ∷ cut (begin (z .«sup_idx») m) ms ]
 
--- opposing records, in order, are cut into runs
+-- a superior's opposing bigs, in order, are cut into runs
 unfoldable pub runs : ℕ → List Member → List Zone
 runs h [] = []
 runs h (m ∷ ms) = cut (begin h m) ms
 
--- ---- owners
+-- ---- superiors
 
--- an owner's records, from first to last
+-- a superior's bigs, from first to last
 unfoldable pub within : List Triple → Triple → List Triple
 within level s = take (suc (s .last) - s .first) (drop (s .first) level)
 
 unfoldable pub opposingOf : (Triple → Range) → List Triple → Triple → List Member
 opposingOf range level s = opposing range (s .direction) (s .first) (within level s)
 
--- the zones of owner h; one with last ≥ the level's count is skipped
+-- the zones of superior h; one with last ≥ big count is skipped
 unfoldable pub zonesOf : (Triple → Range) → List Triple → ℕ → Triple → List Zone
 zonesOf range level h s =
     let zones = runs h (opposingOf range level s) in
     cond (ltb (s .last) (length level)) zones []
 
--- the zones of the owners from index h on, in order
+-- superiors in order, the first of these having index h
 unfoldable pub zonesFrom : (Triple → Range) → List Triple → ℕ → List Triple → List Zone
 zonesFrom range level h [] = []
 zonesFrom range level h (s ∷ ss) = zonesOf range level h s ++ zonesFrom range level (suc h) ss
 
--- the members of a zone: that many opposing records of its owner, in order from the first
+-- the members of a zone are that many opposing bigs of its superior, in order from the first
 unfoldable pub membersIn : (Triple → Range) → List Triple → List Triple → Zone → List ℕ
 membersIn range level owners z =
     elim (getElem? owners (z .«sup_idx»)) [
@@ -110,7 +111,7 @@ membersIn range level owners z =
           take (z .members) (keep (λ (j : ℕ). leb (z .«first_member») j) (map (λ (m : Member). m .index) (opposingOf range level s)))
     ]
 
--- ---- superiors over bigs
+-- ---- the rule for superiors over bigs
 
 -- (detect_bigseg_zhongshus_by_overlap)
 unfoldable pub overlapZones : Levels → List Zone
