@@ -24,7 +24,7 @@ use Rattle.laws.proofs.Lists.{All, nil, cons, all-map, all-append, all-
 use Rattle.laws.proofs.Triples.{follows, cons-of, triple-in}
 use Rattle.laws.proofs.Runs.{Part, members, Owned, zoneOf, partsOf, runs-split}
 use Rattle.laws.proofs.Bounds.{GoodRange, Bounded, runs-bounded}
-use Rattle.laws.proofs.Rising.{Between, between-lower, between-append, between-rest, between-length, between-apart, keep-from}
+use Rattle.laws.proofs.Rising.{Between, between-lower, between-append, between-rest, between-length, between-apart, between-once, keep-from}
 use Rattle.laws.proofs.Opposing.{index, owner-good, owner-rise, in-opposes, opposes-in}
 
 -- ---- parts
@@ -60,6 +60,20 @@ one-part lo hi j (r ∷ ps) h (suc n) (suc m) a b =
     ap suc
     (one-part (t .0) hi j ps (t .1) n m (record { part = a .part; part-at = a .part-at; member = a .member })
     (record { part = b .part; part-at = b .part-at; member = b .member }))
+
+-- and it stands there once
+part-once :
+    (lo hi j : ℕ) (ps : List Part) → Between lo hi (each idsOf ps) → (n : ℕ) (p : Part) → getElem? ps n ≡ some p
+    → (i k : ℕ) → getElem? (idsOf p) i ≡ some j → getElem? (idsOf p) k ≡ some j → i ≡ k
+part-once lo hi j [] h n p e i k f g = absurd (none-some e)
+part-once lo hi j (r ∷ ps) h zero p e i k f g =
+    let same : p ≡ r = cc in
+    let here : (n : ℕ) → getElem? (idsOf p) n ≡ some j → getElem? (idsOf r ++ each idsOf ps) n ≡ some j =
+    λ n u. at-left (idsOf r) (each idsOf ps) n j (subst (λ (x : Part). getElem? (idsOf x) n ≡ some j) same u) in
+    between-once lo hi (idsOf r ++ each idsOf ps) j i k h (here i f) (here k g)
+part-once lo hi j (r ∷ ps) h (suc n) p e i k f g =
+    let t = between-rest lo hi (idsOf r) (each idsOf ps) h in
+    part-once (t .0) hi j ps (t .1) n p e i k f g
 
 -- no part is empty
 parts-length : (ps : List Part) → length ps ≤ length (each idsOf ps)
@@ -265,4 +279,5 @@ module _ (range : Triple → Range) (level : List Triple) where
             only =
                 λ (n : ℕ) (m : MemberAt (zonesFrom range level 0 owners) (membersIn range level owners) j n).
                 one-part 0 (length level) j (partsOver 0 owners) parts-rise n (t .0) (member-part j n m) a;
+            once = rw k (part-once 0 (length level) j (partsOver 0 owners) parts-rise (t .0) (a .part) (a .part-at));
           }

@@ -24,6 +24,7 @@ pub mod EndBars
 pub mod Earlier
 pub mod Quoted
 pub mod Grounds
+pub mod Stems
 pub mod FileSteps
 pub mod FileBytes
 pub mod FileHeld

@@ -1,12 +1,15 @@
 -- Numbers that rise. Assumes nothing.
-use Prim.Native.Nat.{ℕ, suc, _+_, _≤_}
+use Prim.Native.Nat.{ℕ, zero, suc, _+_, _≤_}
 use native.Mathlib.Omega.{arith}
-use mathlib.Core.Path.{_≡_, refl}
+use mathlib.Core.Path.{_≡_, refl, ap}
 use mathlib.Core.List.{List, [], _∷_, _++_, List·Memᴰ, List·Memᴰ·head, List·Memᴰ·tail, List·Memᴰ·not-nil, Memᴰ·append-right}
-use lib.ListN.{length}
+use mathlib.Core.Option.{some}
+use lib.ListN.{length, getElem?}
 use lib.Dec.{leb}
 use borrow.Author.Tests.{le-leb, lt-leb}
 use Rattle.rules.specs.Lists.{keep}
+use Rattle.laws.proofs.Tests.{none-some}
+use Rattle.laws.proofs.Lists.{all-there, all-at}
 
 -- numbers that rise, from lo on and below hi
 abbrev pub Between : ℕ → ℕ → List ℕ → Type 0
@@ -40,6 +43,18 @@ pub between-apart : (lo hi : ℕ) (a b : List ℕ) (x : ℕ) → Between lo hi (
 between-apart lo hi [] b x h i j = List·Memᴰ·not-nil i
 between-apart lo hi (y ∷ a) b x h (List·Memᴰ·head e) j = let k = between-in (suc y) hi (a ++ b) x (h .1) (Memᴰ·append-right a j) in omega arith
 between-apart lo hi (y ∷ a) b x h (List·Memᴰ·tail i) j = between-apart (suc y) hi a b x (h .1) i j
+
+-- a number stands in one place
+pub between-once : (lo hi : ℕ) (l : List ℕ) (x i k : ℕ) → Between lo hi l → getElem? l i ≡ some x → getElem? l k ≡ some x → i ≡ k
+between-once lo hi [] x i k h e f = absurd (none-some e)
+between-once lo hi (y ∷ l) x zero zero h e f = refl
+between-once lo hi (y ∷ l) x zero (suc k) h e f =
+    let same : x ≡ y = cc in
+    absurd (omega (arith, between-in (suc y) hi l x (h .1) (all-at k x (all-there l) f)))
+between-once lo hi (y ∷ l) x (suc i) zero h e f =
+    let same : x ≡ y = cc in
+    absurd (omega (arith, between-in (suc y) hi l x (h .1) (all-at i x (all-there l) e)))
+between-once lo hi (y ∷ l) x (suc i) (suc k) h e f = ap suc (between-once (suc y) hi l x i k (h .1) e f)
 
 -- ---- those from one of them on
 

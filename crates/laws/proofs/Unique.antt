@@ -170,7 +170,7 @@ module _ {P : NMark → Type 0} where
       smaller true = p
       smaller false = h
 
-  puts-all : (ms l : List NMark) → All P ms → All P l → All P (foldl push3N ms l)
+  pub puts-all : (ms l : List NMark) → All P ms → All P l → All P (foldl push3N ms l)
   puts-all ms [] a nil = a
   puts-all ms (m ∷ l) a (cons p b) = puts-all (push3N ms m) l (put-all ms m a p) b
 

@@ -25,6 +25,7 @@ use Rattle.laws.proofs.Grounds.{thirds-traced}
 use Rattle.laws.proofs.Unique.{marks-apart}
 use Rattle.laws.proofs.Earlier.{marks-earlier}
 use Rattle.laws.proofs.Quoted.{marks-quoted}
+use Rattle.laws.proofs.Stems.{marks-stem}
 use Rattle.live.specs.declared.Live.{Live}
 use Rattle.live.specs.Sequence.{AsMachine}
 use Rattle.live.proofs.Chained.{sequence}
@@ -67,6 +68,7 @@ module _ (c : Chart) (good : badChart c ≡ false) (o : InOrder (levelsOf c)) wh
         earlier = λ h m k. all-in (subst Led (sym (r .rows-are h)) (marks-earlier l q (not-broken l o))) k;
         apart = λ h. subst Apart (sym (r .rows-are h)) (marks-apart l q);
         quoted = λ h. each-of (r .rows-are h) (marks-quoted l q (n-refusal c q good few ∙ sym (r .number-is) ∙ h));
+        stems = λ h. each-of (r .rows-are h) (marks-stem l q);
       }
 
 -- ---- the chart that a sequence leaves

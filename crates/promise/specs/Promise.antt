@@ -16,7 +16,7 @@ use Rattle.rules.specs.Marks.{quote, thirdMarks, nMarks}
 use Rattle.rules.specs.Refusals.{refuse, badSlices, badQuotes, endsOutside}
 use Rattle.rules.specs.Calls.{thirdCall, nCall}
 use Rattle.rules.specs.Machine.{Call}
-use Rattle.rules.specs.Claims.{Opposes, OneZone, Edges, Beyond, Traced, Earlier, Apart}
+use Rattle.rules.specs.Claims.{Opposes, OneZone, Edges, Beyond, Traced, Stems, Earlier, Apart}
 use Rattle.live.specs.declared.Live.{Live}
 use Rattle.live.specs.Did.{Nothing}
 use Rattle.live.specs.Sequence.{Chain, AsMachine}
@@ -58,8 +58,10 @@ pub record ThreeN (c : Levels) (q : Quotes) (number count : ℕ) (rows : List NM
   pub earlier : number ≡ 0 → (m : NMark) → List·Memᴰ m (take count rows) → 1 ≤ m .order → Earlier (take count rows) m
   -- "No two 3+N marks share bar and side"
   pub apart : number ≡ 0 → Apart (take count rows)
-  -- "An author must be able to trace each mark": its price is the lent one of its side at its bar, which is inside the slices
+  -- "An author must be able to trace each mark": its price is the lent one of its side at its bar, which is inside the slices, and it is one of the rows
+  -- of a third mark, of a superior or of an anchor; one of order 1 or more is no third mark's
   pub quoted : number ≡ 0 → (m : NMark) → List·Memᴰ m (take count rows) → quote q (m .«is_buy») (m .«bar_index») ≡ some (m .price)
+  pub stems : number ≡ 0 → (m : NMark) → List·Memᴰ m (take count rows) → Stems c q m
 
 -- ---- the chart that a sequence of calls leaves
 

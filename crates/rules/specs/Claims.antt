@@ -14,9 +14,22 @@ use Rattle.chart.specs.declared.Ground.{Ground}
 use Rattle.chart.specs.declared.Ground.the-variants as ground
 use Rattle.chart.specs.declared.ThirdMark.{ThirdMark}
 use Rattle.chart.specs.declared.NMark.{NMark}
-use Rattle.rules.specs.Records.{Levels, Quotes}
+use Rattle.rules.specs.Records.{isUp, Levels, Quotes}
 use Rattle.rules.specs.Zones.{overlapZones}
-use Rattle.rules.specs.Marks.{quote, scanned, sideOf, edgeOf, anchorsOf, anchorSide, anchorPrice, anchorBars}
+use Rattle.rules.specs.Marks.{
+  quote,
+  scanned,
+  sideOf,
+  edgeOf,
+  anchorsOf,
+  anchorSide,
+  anchorPrice,
+  anchorBars,
+  thirdMarks,
+  orderZero,
+  superiorNumbered,
+  anchorNumbered,
+}
 
 -- ---- members
 
@@ -37,12 +50,13 @@ pub record MemberAt (zones : List Zone) (members : Zone → List ℕ) (j n : ℕ
   pub zone-at : getElem? zones n ≡ some zone
   pub member : List·Memᴰ j (members zone)
 
--- exactly one zone has it, and that is one of owner h
+-- exactly one zone has it, that is one of owner h, and it counts there once
 pub record OneZone (zones : List Zone) (members : Zone → List ℕ) (h j : ℕ) : Type 0 where
   pub place : ℕ
   pub there : MemberAt zones members j place
   pub its-owner : there .zone .«sup_idx» ≡ h
   pub only : (n : ℕ) → MemberAt zones members j n → n ≡ place
+  pub once : (i k : ℕ) → getElem? (members (there .zone)) i ≡ some j → getElem? (members (there .zone)) k ≡ some j → i ≡ k
 
 -- ---- edges
 
@@ -88,6 +102,17 @@ From c m (ground.Anchor p) = OfAnchor c m p
 
 abbrev pub Traced : Levels → ThirdMark → Type 0
 Traced c m = From c m (m .ground)
+
+-- Where a 3+N mark comes from. One of order 0 is a third mark's ("third marks have order 0") or one of an anchor's ("each anchor numbers its hits 0,
+-- 1, .."). One of order 1 or more is a row of superior h, of that superior's side ("Per superior ascending .."), or of an anchor
+pub data Stems (c : Levels) (q : Quotes) (m : NMark) : Type 0 where
+  of-third : (t : ThirdMark) → List·Memᴰ t (thirdMarks c q) → m ≡ orderZero t → Stems c q m
+  of-superior :
+      (h : ℕ) (s : Triple) → getElem? (c .superiors) h ≡ some s
+      → List·Memᴰ m (superiorNumbered c q (overlapZones c) (thirdMarks c q) h (isUp (s .direction))) → Stems c q m
+  of-anchor :
+      (a : Stroke) → List·Memᴰ a (anchorsOf c (c .superiors)) → List·Memᴰ m (anchorNumbered c q (anchorSide (c .superiors)) a)
+      → Stems c q m
 
 -- among marks there is one of order 0, of this mark's side, at an earlier bar
 pub record Earlier (ms : List NMark) (m : NMark) : Type 0 where
