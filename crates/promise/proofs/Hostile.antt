@@ -1,28 +1,53 @@
--- Wrong programs that weaker contracts would let pass: one that lies about a count where its level is full. And wrong results of the 3+N call,
--- each of which a clause of the promise shuts out. Assumes nothing.
-use Prim.Native.Nat.{ℕ, suc, _≤_, _<_}
+-- Wrong programs that weaker contracts would let pass: one that lies about a count where its level is full. And wrong zones and wrong results of the
+-- third and the 3+N call, each of which a clause of the promise shuts out. Assumes nothing.
+use Prim.Native.Nat.{ℕ, zero, suc, _≤_, _<_}
 use native.Mathlib.Omega.{arith}
-use mathlib.Core.Path.{_≡_, refl, sym, ap, _∙_}
+use mathlib.Core.Path.{_≡_, refl, sym, ap, subst, _∙_}
 use mathlib.Core.Logic.{_≢_}
-use mathlib.Core.Bool.{Bool, true, false}
-use mathlib.Core.List.{List, [], _∷_, map, List·Memᴰ, List·Memᴰ·head, List·Memᴰ·tail}
+use mathlib.Core.Bool.{Bool, true, false, cond, _&&_, false≢true}
+use mathlib.Core.List.{List, [], _∷_, map, List·Memᴰ, List·Memᴰ·head, List·Memᴰ·tail, List·Memᴰ·not-nil}
 use mathlib.Core.Option.{some}
-use lib.ListN.{length, take}
+use lib.ListN.{length, take, getElem?}
+use lib.Ieee.{Float, lt, le}
 use lib.Seq.{take-all}
+use Rattle.chart.specs.declared.Stroke.{Stroke}
+use Rattle.chart.specs.declared.Triple.{Triple}
+use Rattle.chart.specs.declared.Zone.{Zone}
+use Rattle.chart.specs.declared.Ground.the-variants as ground
+use Rattle.chart.specs.declared.ThirdMark.{ThirdMark}
 use Rattle.chart.specs.declared.NMark.{NMark}
+use Rattle.price.specs.Price.{Price}
+use Rattle.price.proofs.Order.{keys, tests}
 use Rattle.rules.specs.Answer.{refused, rowsAnswer}
-use Rattle.rules.specs.Records.{Levels, levelsOf, Quotes}
-use Rattle.rules.specs.Marks.{quote}
+use Rattle.rules.specs.Records.{isUp, Levels, levelsOf, Quotes}
+use Rattle.rules.specs.Zones.{overlapZones, membersOf}
+use Rattle.rules.specs.Marks.{
+  quote,
+  scanned,
+  sideOf,
+  edgeOf,
+  anchorsOf,
+  anchorSide,
+  anchorPrice,
+  anchorBars,
+  thirdMarks,
+  orderZero,
+  superiorNumbered,
+  anchorNumbered,
+}
 use Rattle.rules.specs.Refusals.{refuse, overfull, badChart, badLive, badSlices, badQuotes, endsOutside}
 use Rattle.rules.specs.Calls.{onChart, thirdCall, nCall}
 use Rattle.rules.specs.Machine.{Call}
 use Rattle.rules.specs.Live.{view, liveRefusal, after}
+use Rattle.rules.specs.Claims.{Opposes, MemberAt, named, From, Stems, of-third, of-superior, of-anchor}
 use Rattle.rules.proofs.Computing.{everything}
-use Rattle.rules.proofs.Charts.{mark}
+use Rattle.rules.proofs.Charts.{triple, zoneThird, mark}
 use Rattle.rules.proofs.ChartK.{K, barsOf, barsK}
 use Rattle.live.specs.declared.Live.{Live}
 use Rattle.live.specs.Did.{part, liveAnswer, Did}
-use Rattle.promise.specs.Promise.{ThreeN}
+use Rattle.laws.proofs.Tests.{none-some}
+use Rattle.laws.proofs.Lists.{all-there, all-at}
+use Rattle.promise.specs.Promise.{levelsIn, zonesIn, Thirds, ThreeN, Promise}
 
 same-taken : {A : Type 0} (xs : List A) (n : ℕ) → length xs ≡ 512 → n ≡ 512 → take 600 xs ≡ take n xs
 same-taken xs n h e = take-all 600 xs (omega arith) ∙ sym (take-all n xs (omega arith))
@@ -97,6 +122,112 @@ rows-refuse : {A : Type 0} (rows : List A) → length rows ≡ 512 → rowsAnswe
 unfolding rowsAnswer
 rows-refuse rows h = rw h
 
+-- ---- zones of the chart that a sequence leaves
+
+module _ (ks : List Call) (ns : List ℕ) (d : Live) where
+  -- big j is an opposing one of superior h
+  abbrev Big : ℕ → ℕ → Type 0
+  Big h j = Opposes (levelsIn d .bigs) (levelsIn d .superiors) h j
+
+  -- it is a member of the zone in place n
+  abbrev In : ℕ → ℕ → Type 0
+  In j n = MemberAt (zonesIn d) (membersOf (levelsIn d)) j n
+
+  -- zones of superior 0 only, though a later one has an opposing big
+  first-superior-only :
+      (h j : ℕ) → Big (suc h) j → ((n : ℕ) (z : Zone) → getElem? (zonesIn d) n ≡ some z → z .«sup_idx» ≡ 0) → Promise ks ns d → ⊥
+  first-superior-only h j b f p =
+      let o = p .one-zone (suc h) j b in
+      omega (arith, f (o .place) (o .there .zone) (o .there .zone-at), o .its-owner)
+
+  -- an opposing big in no zone, and one in two
+  in-no-zone : (h j : ℕ) → Big h j → ((n : ℕ) → In j n → ⊥) → Promise ks ns d → ⊥
+  in-no-zone h j b f p = let o = p .one-zone h j b in f (o .place) (o .there)
+
+  in-two-zones : (h j m n : ℕ) → Big h j → In j m → In j n → m ≢ n → Promise ks ns d → ⊥
+  in-two-zones h j m n b u v e p = let o = p .one-zone h j b in e (o .only m u ∙ sym (o .only n v))
+
+  -- one that is counted twice in its zone
+  counted-twice :
+      (h j n : ℕ) (z : Zone) → Big h j → getElem? (zonesIn d) n ≡ some z
+      → (i k : ℕ) → getElem? (membersOf (levelsIn d) z) i ≡ some j → getElem? (membersOf (levelsIn d) z) k ≡ some j → i ≢ k
+      → Promise ks ns d → ⊥
+  counted-twice h j n z b e i k f g differ p =
+      let l = levelsIn d in
+      let o = p .one-zone h j b in
+      let at : In j n = record { zone = z; zone-at = e; member = all-at i j (all-there (membersOf l z)) f } in
+      let its : n ≡ o .place = o .only n at in
+      let same : z ≡ o .there .zone = cc in
+      let place : (x : ℕ) → getElem? (membersOf l z) x ≡ some j → getElem? (membersOf l (o .there .zone)) x ≡ some j =
+      λ x u. subst (λ (y : Zone). getElem? (membersOf l y) x ≡ some j) same u in
+      differ (o .once i k (place i f) (place k g))
+
+  module _ (z : Zone) (there : List·Memᴰ z (zonesIn d)) where
+    -- a zone that says another number of members than it has, and one with a member that is no opposing big of its superior
+    miscounted : length (membersOf (levelsIn d) z) ≢ z .members → Promise ks ns d → ⊥
+    miscounted h p = h (p .members-are z there)
+
+    stranger : (j : ℕ) → List·Memᴰ j (membersOf (levelsIn d) z) → (Big (z .«sup_idx») j → ⊥) → Promise ks ns d → ⊥
+    stranger j m h p = h (p .members-oppose z there j m)
+
+    -- two members or more with zd = zg, and edges that are not in order
+    touching : Price (z .zd) → 2 ≤ z .members → z .zd ≡ z .zg → Promise ks ns d → ⊥
+    touching x two e p =
+        let h : lt (z .zd) (z .zd) ≡ true = subst (λ (y : Float). lt (z .zd) y ≡ true) (sym e) (p .edges z there .overlap two) in
+        omega (tests, simp keys at h)
+
+    crossed : (le (z .dd) (z .zd) && le (z .zd) (z .zg) && le (z .zg) (z .gg)) ≡ false → Promise ks ns d → ⊥
+    crossed h p = let e = p .edges z there in false≢true (sym h ∙ rw (e .dd-zd, e .zd-zg, e .zg-gg))
+
+-- ---- results of the third call: a row m of an accepted one, on any chart, for all lent prices
+
+-- of two prices, neither is strictly beyond itself, and only one beyond the other
+not-beyond-itself : (buy : Bool) (x : Float) → Price x → cond buy (lt x x) (lt x x) ≡ true → ⊥
+not-beyond-itself true x p h = omega (tests, simp keys at h)
+not-beyond-itself false x p h = omega (tests, simp keys at h)
+
+one-beyond :
+    (buy : Bool) (x y : Float) → Price x → Price y → cond buy (lt x y) (lt y x) ≡ true → cond buy (lt y x) (lt x y) ≡ true → ⊥
+one-beyond true x y p q h k = omega (tests, simp keys at h, simp keys at k)
+one-beyond false x y p q h k = omega (tests, simp keys at h, simp keys at k)
+
+module _ (c : Levels) (q : Quotes) (count : ℕ) (rows : List ThirdMark) (m : ThirdMark) (row : List·Memᴰ m (take count rows)) where
+  -- a mark on the ground that it names
+  on-its-ground : Price (m .price) → named (m .ground) ≡ m .price → Thirds c q 0 count rows → ⊥
+  on-its-ground p e t =
+      not-beyond-itself (m .«is_buy») (m .price) p
+      (subst (λ (x : Float). cond (m .«is_buy») (lt x (m .price)) (lt (m .price) x) ≡ true) e (t .beyond refl m row .beyond))
+
+  -- a buy below it, and a sell above it
+  wrong-side :
+      Price (m .price) → Price (named (m .ground))
+      → cond (m .«is_buy») (lt (m .price) (named (m .ground))) (lt (named (m .ground)) (m .price)) ≡ true → Thirds c q 0 count rows → ⊥
+  wrong-side p r h t = one-beyond (m .«is_buy») (m .price) (named (m .ground)) p r h (t .beyond refl m row .beyond)
+
+  -- a price other than the lent one
+  third-smoothed : quote q (m .«is_buy») (m .«bar_index») ≢ some (m .price) → Thirds c q 0 count rows → ⊥
+  third-smoothed h t = h (t .beyond refl m row .quoted)
+
+  -- an edge that no zone has on whose bars the mark stands, on its side
+  edge-of-no-zone :
+      (p : Float) → m .ground ≡ ground.Zone p
+      → ((z : Zone) → List·Memᴰ z (overlapZones c) → p ≡ edgeOf c z → m .«is_buy» ≡ sideOf c z
+      → List·Memᴰ (m .«bar_index») (scanned c (overlapZones c) z) → ⊥)
+      → Thirds c q 0 count rows → ⊥
+  edge-of-no-zone p e h t =
+      let z = subst (From c m) e (t .traced refl m row) in
+      h (z .zone) (z .there) (z .edge) (z .side) (z .bar)
+
+  -- and a price C that no such anchor has
+  price-of-no-anchor :
+      (p : Float) → m .ground ≡ ground.Anchor p
+      → ((a : Stroke) → List·Memᴰ a (anchorsOf c (c .superiors)) → anchorPrice c (anchorSide (c .superiors)) a ≡ some p
+      → m .«is_buy» ≡ anchorSide (c .superiors) → List·Memᴰ (m .«bar_index») (anchorBars c (anchorSide (c .superiors)) a) → ⊥)
+      → Thirds c q 0 count rows → ⊥
+  price-of-no-anchor p e h t =
+      let a = subst (From c m) e (t .traced refl m row) in
+      h (a .anchor) (a .there) (a .price) (a .side) (a .bar)
+
 -- ---- results of the 3+N call: on any chart, for all lent prices
 
 module _ (c : Levels) (q : Quotes) where
@@ -129,6 +260,21 @@ module _ (c : Levels) (q : Quotes) where
   smoothed : (m : NMark) → quote q (m .«is_buy») (m .«bar_index») ≢ some (m .price) → ThreeN c q 0 1 (m ∷ []) → ⊥
   smoothed m h t = h (t .quoted refl m (List·Memᴰ·head refl))
 
+  -- a row of order 1 or more that no superior and no anchor has
+  stemless :
+      (count : ℕ) (rows : List NMark) (m : NMark) → List·Memᴰ m (take count rows) → 1 ≤ m .order
+      → ((h : ℕ) (s : Triple) → getElem? (c .superiors) h ≡ some s
+      → List·Memᴰ m (superiorNumbered c q (overlapZones c) (thirdMarks c q) h (isUp (s .direction))) → ⊥)
+      → ((a : Stroke) → List·Memᴰ a (anchorsOf c (c .superiors)) → List·Memᴰ m (anchorNumbered c q (anchorSide (c .superiors)) a) → ⊥)
+      → ThreeN c q 0 count rows → ⊥
+  unfolding orderZero
+  stemless count rows m row o no-superior no-anchor t = go (t .stems refl m row)
+    where
+      go : Stems c q m → ⊥
+      go (of-third x k e) = omega (arith, ap (λ (y : NMark). y .order) e)
+      go (of-superior h s e k) = no-superior h s e k
+      go (of-anchor a k j) = no-anchor a k j
+
 -- ---- and on chart K, whose marks are of order 0 at bar 29 and of order 1 at bar 38
 
 no-rows : (rows : List NMark) → ThreeN K (barsK 26) 0 0 rows → ⊥
@@ -142,6 +288,40 @@ all-order-0 t =
     let e : _≡_ {A = List ℕ} (0 ∷ 0 ∷ []) (0 ∷ 1 ∷ []) = ap (map (λ (m : NMark). m .order)) (t .result .rows-are refl) in
     let z : _≡_ {A = ℕ} 0 1 = cc in
     omega arith
+
+-- the right marks and one more, at a bar that no scan meets, of whatever order: its price is the lent one, and it has an earlier mark of order 0
+one-more : (n : ℕ) → ThreeN K (barsK 26) 0 3 (mark true 0 29 26 ∷ mark true 1 38 19 ∷ mark true n 33 12 ∷ []) → ⊥
+unfolding everything
+one-more n t = go (t .stems refl m (List·Memᴰ·tail (List·Memᴰ·tail (List·Memᴰ·head refl))))
+  where
+    m : NMark
+    m = mark true n 33 12
+
+    other : (x : NMark) → x .«bar_index» ≢ 33 → List·Memᴰ m (x ∷ []) → ⊥
+    other x h (List·Memᴰ·head e) = h (sym (ap (λ (y : NMark). y .«bar_index») e))
+    other x h (List·Memᴰ·tail k) = List·Memᴰ·not-nil k
+
+    third : (x : ThirdMark) → List·Memᴰ x (zoneThird true 29 26 20 ∷ []) → m ≡ orderZero x → ⊥
+    third x (List·Memᴰ·head f) e =
+        let h : 33 ≡ x .«bar_index» = ap (λ (y : NMark). y .«bar_index») e in
+        omega (arith, ap (λ (y : ThirdMark). y .«bar_index») f)
+    third x (List·Memᴰ·tail k) e = List·Memᴰ·not-nil k
+
+    superior :
+        (h : ℕ) (s : Triple) → getElem? (K .superiors) h ≡ some s
+        → List·Memᴰ m (superiorNumbered K (barsK 26) (overlapZones K) (thirdMarks K (barsK 26)) h (isUp (s .direction))) → ⊥
+    superior zero s e k =
+        let up : s ≡ triple 1 0 4 = cc in
+        other (mark true 1 38 19) (λ (f : 38 ≡ 33). omega arith)
+        (subst
+        (λ (x : Triple). List·Memᴰ m (superiorNumbered K (barsK 26) (overlapZones K) (thirdMarks K (barsK 26)) 0 (isUp (x .direction)))) up
+        k)
+    superior (suc h) s e k = absurd (none-some e)
+
+    go : Stems K (barsK 26) m → ⊥
+    go (of-third x k e) = third x k e
+    go (of-superior h s e k) = superior h s e k
+    go (of-anchor a k j) = List·Memᴰ·not-nil k
 
 -- refused though nothing refuses it, and accepted though a stroke ends behind the last bar
 refused-at-will : (n : ℕ) (rows : List NMark) → ThreeN K (barsK 26) (suc n) 0 rows → ⊥
