@@ -1,16 +1,18 @@
--- The promise is empty for no list of calls and no quotes: there are charts and results for each, as the contracts have them. And chart K,
--- built by calls, has third and 3+N marks. Assumes nothing.
+-- The promise is empty for no list of calls and no quotes: there are charts and results for each, as the contracts have them. And charts built by
+-- calls, of every kind and with refused ones among them, have third and 3+N marks. Assumes nothing.
 use Prim.Native.Nat.{ℕ, zero, suc}
 use mathlib.Core.Path.{_≡_, refl, sym, ap, subst, _∙_}
 use mathlib.Core.Bool.{true, false}
 use mathlib.Core.List.{List, [], _∷_, _++_, map}
 use native.Mathlib.Omega.{arith}
-use lib.ListN.{length, replicate}
+use lib.ListN.{length, take, drop}
 use lib.Ieee.{nan}
 use lib.Seq.{take-length}
 use borrow.Author.Tests.{le-ltb, ne-eqb}
+use Rattle.chart.specs.declared.Stroke.{Stroke}
+use Rattle.chart.specs.declared.Triple.{Triple}
 use Rattle.rules.specs.Answer.{refused, answered, rowsAnswer}
-use Rattle.rules.specs.Records.{Levels, levelsOf}
+use Rattle.rules.specs.Records.{Levels, levelsOf, Quotes}
 use Rattle.rules.specs.Zones.{overlapZones, zonesFrom}
 use Rattle.rules.specs.Refusals.{overfull}
 use Rattle.rules.specs.Calls.{thirdCall, nCall}
@@ -24,6 +26,7 @@ use Rattle.rules.specs.Machine.{
   lengthen,
   withdraw,
   deriveBigs,
+  deriveSuperiors,
   empty,
   refusal,
   step,
@@ -32,7 +35,19 @@ use Rattle.rules.specs.Machine.{
 }
 use Rattle.rules.specs.Live.{View, view, after}
 use Rattle.rules.proofs.Computing.{everything}
-use Rattle.rules.proofs.Charts.{zoneThird, anchorThird, triple, mark}
+use Rattle.rules.proofs.Charts.{
+  price,
+  minusZero,
+  turn,
+  triple,
+  stroke,
+  strokesOf,
+  one-each,
+  quoted,
+  zoneThird,
+  anchorThird,
+  mark,
+}
 use Rattle.rules.proofs.ChartK.{K, barsOf, barsK}
 use Rattle.laws.proofs.Ordered.{InOrder, not-broken}
 use Rattle.laws.proofs.Zones.{zones-256}
@@ -41,6 +56,7 @@ use Rattle.laws.proofs.Answers.{given-rows, refused-rows}
 use Rattle.live.specs.declared.Live.{Live}
 use Rattle.live.specs.Did.{part, liveAnswer, TrueCounts, Did, Nothing}
 use Rattle.live.specs.Sequence.{Chain, done, next}
+use Rattle.promise.specs.Promise.{levelsIn}
 
 -- ---- a live chart for each state of the machine: its lists, in arrays of just their length. The code has arrays of fixed size, and its contracts
 -- say the same of these
@@ -144,52 +160,129 @@ unfolding answered
 every-answer zero l = (0, length l, l, given-rows l (length l) (omega arith) ∙ rw (take-length l))
 every-answer (suc r) l = (suc r, 0, l, refused-rows l (suc r) (omega arith))
 
--- ---- chart K by calls: a chain whose calls are all accepted, on whose chart both calls for marks are accepted and have rows
+-- ---- charts by calls
 
-pub record Built : Type 0 where
-  pub first : Live
-  pub left : Live
-  pub nothing : Nothing first
-  pub calls : List Call
-  pub chain : Chain first calls (replicate 25 0) left
-  -- a result of each call for marks, with number 0 and rows
-  pub third : rowsAnswer 0 1 (zoneThird true 29 26 20 ∷ []) ≡ thirdCall (left .chart) (barsK 26)
-  pub three-n : rowsAnswer 0 2 (mark true 0 29 26 ∷ mark true 1 38 19 ∷ []) ≡ nCall (left .chart) (barsK 26)
-  -- each number that refuses the 3+N call
-  pub unequal-slices : nCall (left .chart) (record { highs = barsK 26 .highs; lows = [] }) ≡ refused 8
-  pub no-price : nCall (left .chart) (record { highs = nan ∷ []; lows = nan ∷ [] }) ≡ refused 1
-  pub outside : nCall (left .chart) (barsOf 38 26) ≡ refused 9
+-- a call, and the number that it is answered with
+record Asked : Type 0 where
+  call : Call
+  number : ℕ
 
-abbrev building : List Call
-building =
-    map addStroke (K .strokes) ++ map addSegment (K .segments) ++ map addBig (K .bigs) ++ map addSuperior (K .superiors)
+abbrev asked : Call → ℕ → Asked
+asked k n = record { call = k; number = n }
 
-pub built : Built
-unfolding everything liveOf
-built =
+abbrev accepted : List Call → List Asked
+accepted ks = map (λ (k : Call). asked k 0) ks
+
+abbrev callsIn : List Asked → List Call
+callsIn ks = map (λ (k : Asked). k .call) ks
+
+abbrev numbersIn : List Asked → List ℕ
+numbersIn ks = map (λ (k : Asked). k .number) ks
+
+-- these calls, in this order from a chart with nothing in it, are answered so and leave a chart
+record Way (ks : List Asked) : Type 0 where
+  first : Live
+  left : Live
+  nothing : Nothing first
+  chain : Chain first (callsIn ks) (numbersIn ks) left
+
+way : (ks : List Asked) → answers empty (callsIn ks) ≡ numbersIn ks → Way ks
+unfolding run
+way ks e =
     record {
       first = liveOf empty;
-      left = liveOf (run empty building);
+      left = liveOf (run empty (callsIn ks));
       nothing = nothing;
-      calls = building;
-      chain = chain empty (run-ordered []) building;
+      chain =
+          subst (λ (ns : List ℕ). Chain (liveOf empty) (callsIn ks) ns (liveOf (run empty (callsIn ks)))) e
+          (chain empty (run-ordered []) (callsIn ks));
+    }
+
+-- ---- chart K: calls that are all accepted, and both calls for marks have rows
+
+abbrev building : List Asked
+building =
+    accepted
+    (map addStroke (K .strokes) ++ map addSegment (K .segments) ++ map addBig (K .bigs) ++ map addSuperior (K .superiors))
+
+record Built : Type 0 where
+  by : Way building
+  -- a result of each call for marks, with number 0 and rows
+  third : rowsAnswer 0 1 (zoneThird true 29 26 20 ∷ []) ≡ thirdCall (by .left .chart) (barsK 26)
+  three-n : rowsAnswer 0 2 (mark true 0 29 26 ∷ mark true 1 38 19 ∷ []) ≡ nCall (by .left .chart) (barsK 26)
+  -- each number that refuses them; a stroke that ends behind the slices refuses the 3+N call alone
+  unequal-slices : nCall (by .left .chart) (record { highs = barsK 26 .highs; lows = [] }) ≡ refused 8
+  no-price : nCall (by .left .chart) (record { highs = nan ∷ []; lows = nan ∷ [] }) ≡ refused 1
+  outside : nCall (by .left .chart) (barsOf 38 26) ≡ refused 9
+  third-unequal-slices : thirdCall (by .left .chart) (record { highs = barsK 26 .highs; lows = [] }) ≡ refused 8
+  third-no-price : thirdCall (by .left .chart) (record { highs = nan ∷ []; lows = nan ∷ [] }) ≡ refused 1
+  third-inside : rowsAnswer 0 1 (zoneThird true 29 26 20 ∷ []) ≡ thirdCall (by .left .chart) (barsOf 38 26)
+
+built : Built
+unfolding everything liveOf way
+built =
+    record {
+      by = way building refl;
       third = refl;
       three-n = refl;
       unequal-slices = refl;
       no-price = refl;
       outside = refl;
+      third-unequal-slices = refl;
+      third-no-price = refl;
+      third-inside = refl;
     }
 
--- every kind of call, refused ones among them, and a mark whose ground is an anchor's price
-abbrev mixing : List Call
+-- ---- every kind of call, refused ones among them with each number but 3 (a full level) and 21; marks of both sides, on zones and on an anchor, one of
+-- order 2. Numbers, records and rows are those of 01 and of the reference
+
+-- prices 13, 5, 8, .. at bars 0 to 12, the first stroke down
+abbrev strokes12 : List Stroke
+strokes12 =
+    strokesOf 0
+    (turn 0 13 ∷ turn 1 5 ∷ turn 2 8 ∷ turn 3 2 ∷ turn 4 5 ∷ turn 5 3 ∷ turn 6 11 ∷ turn 7 8 ∷ turn 8 9 ∷ turn 9 5 ∷ turn 10 13 ∷ turn 11 5
+    ∷ turn 12 7 ∷ [])
+
+-- a segment for each, and the bigs behind the derived one
+abbrev segments12 : List Triple
+segments12 = one-each 0 strokes12
+
+abbrev bigs12 : List Triple
+bigs12 = drop 3 segments12
+
+abbrev withMinusZero : Stroke
+withMinusZero =
+    record { direction = 0; «start_bar» = 12; «end_bar» = 13; «start_price» = price 7; «end_price» = minusZero }
+
+abbrev mixing : List Asked
 mixing =
-    map addStroke (K .strokes) ++ map addSegment (K .segments)
-    ++ (deriveBigs 1 ∷ withdraw 2 ∷ withdraw 2 ∷ map addBig (K .bigs)) ++ (addSuperior (triple 1 4 5) ∷ lengthen 6 ∷ lengthen 6 ∷ withdraw 9 ∷ [])
+    accepted (map addStroke strokes12)
+    ++ (asked (addStroke withMinusZero) 1 ∷ asked (addStroke (stroke 0 (turn 12 7) (turn 12 6))) 4 ∷ [])
+    ++ (asked (addStroke (stroke 1 (turn 12 7) (turn 13 9))) 14 ∷ [])
+    ++ accepted (map addSegment (take 4 segments12))
+    ++ (asked (addSegment (triple 1 3 4)) 4 ∷ asked (addSegment (triple 2 4 4)) 2 ∷ asked (addSegment (triple 0 4 12)) 5 ∷ [])
+    ++ (asked (deriveBigs 2) 2 ∷ asked (deriveBigs 0) 0 ∷ asked (deriveBigs 1) 6 ∷ [])
+    ++ accepted (map addSegment (drop 4 segments12) ++ map addBig (take 3 bigs12))
+    ++ (asked (lengthen 3) 7 ∷ asked (withdraw 3) 7 ∷ asked (deriveSuperiors 0) 0 ∷ asked (deriveSuperiors 0) 6 ∷ [])
+    ++ accepted (map addBig (drop 3 bigs12))
+    ++ (asked (lengthen 5) 0 ∷ asked (lengthen 5) 4 ∷ asked (lengthen 10) 5 ∷ [])
+    ++ (asked (addSuperior (triple 0 6 7)) 0 ∷ asked (withdraw 3) 0 ∷ asked (addSuperior (triple 0 6 7)) 0 ∷ [])
+    ++ (asked (withdraw 0) 6 ∷ asked (withdraw 4) 2 ∷ [])
+
+-- 13 bars: highs 20 but 4 at bar 12, lows 1 but 6, 8 and 7 at bars 5, 7 and 9
+abbrev bars12 : Quotes
+bars12 = quoted 13 20 (turn 12 4 ∷ []) 1 (turn 5 6 ∷ turn 7 8 ∷ turn 9 7 ∷ [])
 
 record Mixed : Type 0 where
-  answers-are : _≡_ {A = List ℕ} (answers empty mixing) (replicate 18 0 ++ (7 ∷ replicate 10 0) ++ (4 ∷ 2 ∷ []))
-  third : rowsAnswer 0 1 (anchorThird true 29 26 24 ∷ []) ≡ thirdCall (liveOf (run empty mixing) .chart) (barsK 26)
+  by : Way mixing
+  -- a big and a superior are derived, the superior is lengthened
+  bigs : levelsIn (by .left) .bigs ≡ triple 0 0 2 ∷ bigs12
+  superiors : levelsIn (by .left) .superiors ≡ triple 1 1 5 ∷ triple 0 6 7 ∷ []
+  third :
+      rowsAnswer 0 3 (zoneThird true 7 8 5 ∷ zoneThird false 12 4 5 ∷ anchorThird true 5 6 5 ∷ []) ≡ thirdCall (by .left .chart) bars12
+  three-n :
+      rowsAnswer 0 4 (mark true 0 7 8 ∷ mark false 0 12 4 ∷ mark true 0 5 6 ∷ mark true 2 9 7 ∷ []) ≡ nCall (by .left .chart) bars12
 
 mixed : Mixed
-unfolding everything liveOf
-mixed = record { answers-are = refl; third = refl }
+unfolding everything liveOf way
+mixed = record { by = way mixing refl; bigs = refl; superiors = refl; third = refl; three-n = refl }
