@@ -11,6 +11,8 @@ use lib.Seq.{take-length}
 use borrow.Author.Tests.{le-ltb, ne-eqb}
 use Rattle.chart.specs.declared.Stroke.{Stroke}
 use Rattle.chart.specs.declared.Triple.{Triple}
+use Rattle.chart.specs.declared.ThirdMark.{ThirdMark}
+use Rattle.chart.specs.declared.NMark.{NMark}
 use Rattle.rules.specs.Answer.{refused, answered, rowsAnswer}
 use Rattle.rules.specs.Records.{Levels, levelsOf, Quotes}
 use Rattle.rules.specs.Zones.{overlapZones, zonesFrom}
@@ -56,7 +58,8 @@ use Rattle.laws.proofs.Answers.{given-rows, refused-rows}
 use Rattle.live.specs.declared.Live.{Live}
 use Rattle.live.specs.Did.{part, liveAnswer, TrueCounts, Did, Nothing}
 use Rattle.live.specs.Sequence.{Chain, done, next}
-use Rattle.promise.specs.Promise.{levelsIn}
+use Rattle.promise.specs.Promise.{levelsIn, Thirds, ThreeN, Promise}
+use Rattle.promise.proofs.Promised.{promise}
 
 -- ---- a live chart for each state of the machine: its lists, in arrays of just their length. The code has arrays of fixed size, and its contracts
 -- say the same of these
@@ -273,16 +276,31 @@ mixing =
 abbrev bars12 : Quotes
 bars12 = quoted 13 20 (turn 12 4 ∷ []) 1 (turn 5 6 ∷ turn 7 8 ∷ turn 9 7 ∷ [])
 
+-- a buy and a sell at an edge, a buy at a price C; and with their orders
+abbrev thirds12 : List ThirdMark
+thirds12 = zoneThird true 7 8 5 ∷ zoneThird false 12 4 5 ∷ anchorThird true 5 6 5 ∷ []
+
+abbrev marks12 : List NMark
+marks12 = mark true 0 7 8 ∷ mark false 0 12 4 ∷ mark true 0 5 6 ∷ mark true 2 9 7 ∷ []
+
 record Mixed : Type 0 where
   by : Way mixing
   -- a big and a superior are derived, the superior is lengthened
   bigs : levelsIn (by .left) .bigs ≡ triple 0 0 2 ∷ bigs12
   superiors : levelsIn (by .left) .superiors ≡ triple 1 1 5 ∷ triple 0 6 7 ∷ []
-  third :
-      rowsAnswer 0 3 (zoneThird true 7 8 5 ∷ zoneThird false 12 4 5 ∷ anchorThird true 5 6 5 ∷ []) ≡ thirdCall (by .left .chart) bars12
-  three-n :
-      rowsAnswer 0 4 (mark true 0 7 8 ∷ mark false 0 12 4 ∷ mark true 0 5 6 ∷ mark true 2 9 7 ∷ []) ≡ nCall (by .left .chart) bars12
+  third : rowsAnswer 0 3 thirds12 ≡ thirdCall (by .left .chart) bars12
+  three-n : rowsAnswer 0 4 marks12 ≡ nCall (by .left .chart) bars12
 
 mixed : Mixed
 unfolding everything liveOf way
 mixed = record { by = way mixing refl; bigs = refl; superiors = refl; third = refl; three-n = refl }
+
+-- the promise speaks of this chart, and of these very rows
+promised : Promise (callsIn mixing) (numbersIn mixing) (mixed .by .left)
+promised = promise _ _ _ _ (mixed .by .nothing) (mixed .by .chain)
+
+thirds-promised : Thirds (levelsIn (mixed .by .left)) bars12 0 3 thirds12
+thirds-promised = promised .third bars12 0 3 thirds12 (mixed .third)
+
+marks-promised : ThreeN (levelsIn (mixed .by .left)) bars12 0 4 marks12
+marks-promised = promised .three-n bars12 0 4 marks12 (mixed .three-n)
