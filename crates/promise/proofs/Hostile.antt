@@ -47,7 +47,7 @@ use Rattle.live.specs.declared.Live.{Live}
 use Rattle.live.specs.Did.{part, liveAnswer, Did}
 use Rattle.laws.proofs.Tests.{none-some}
 use Rattle.laws.proofs.Lists.{all-there, all-at}
-use Rattle.promise.specs.Promise.{levelsIn, zonesIn, Thirds, ThreeN, Promise}
+use Rattle.promise.specs.Promise.{levelsIn, zonesIn, Result, Thirds, ThreeN, Promise}
 
 same-taken : {A : Type 0} (xs : List A) (n : ℕ) → length xs ≡ 512 → n ≡ 512 → take 600 xs ≡ take n xs
 same-taken xs n h e = take-all 600 xs (omega arith) ∙ sym (take-all n xs (omega arith))
@@ -122,6 +122,13 @@ rows-refuse : {A : Type 0} (rows : List A) → length rows ≡ 512 → rowsAnswe
 unfolding rowsAnswer
 rows-refuse rows h = rw h
 
+-- a result that counts more rows than it has, and a refused one that has rows
+overcounted : {A : Type 0} (r : ℕ) (marks rows : List A) (count : ℕ) → length rows < count → Result r marks 0 count rows → ⊥
+overcounted r marks rows count h t = omega (arith, t .true-count refl)
+
+rows-beside-a-number : {A : Type 0} (r n k : ℕ) (marks rows : List A) → Result r marks (suc n) (suc k) rows → ⊥
+rows-beside-a-number r n k marks rows t = let e : suc k ≡ 0 = t .no-rows (λ (z : suc n ≡ 0). omega arith) in omega arith
+
 -- ---- zones of the chart that a sequence leaves
 
 module _ (ks : List Call) (ns : List ℕ) (d : Live) where
@@ -132,6 +139,10 @@ module _ (ks : List Call) (ns : List ℕ) (d : Live) where
   -- it is a member of the zone in place n
   abbrev In : ℕ → ℕ → Type 0
   In j n = MemberAt (zonesIn d) (membersOf (levelsIn d)) j n
+
+  -- zones other than those of the overlap rule
+  other-zones : zonesIn d ≢ overlapZones (levelsIn d) → Promise ks ns d → ⊥
+  other-zones h p = h (p .zones-are)
 
   -- zones of superior 0 only, though a later one has an opposing big
   first-superior-only :
@@ -227,6 +238,16 @@ module _ (c : Levels) (q : Quotes) (count : ℕ) (rows : List ThirdMark) (m : Th
   price-of-no-anchor p e h t =
       let a = subst (From c m) e (t .traced refl m row) in
       h (a .anchor) (a .there) (a .price) (a .side) (a .bar)
+
+-- ---- and on chart K, whose third mark is at bar 29
+
+no-thirds : (rows : List ThirdMark) → Thirds K (barsK 26) 0 0 rows → ⊥
+unfolding everything
+no-thirds rows t = let e : _≡_ {A = ℕ} 0 1 = ap length (t .result .rows-are refl) in omega arith
+
+third-refused-at-will : (n : ℕ) (rows : List ThirdMark) → Thirds K (barsK 26) (suc n) 0 rows → ⊥
+unfolding everything
+third-refused-at-will n rows t = let e : suc n ≡ 0 = t .result .number-is in omega arith
 
 -- ---- results of the 3+N call: on any chart, for all lent prices
 

@@ -1,5 +1,6 @@
 -- Demand 3: `promise`, of every sequence of calls, and of every call for third or 3+N marks behind it. Assumes nothing.
 use Prim.Native.Nat.{ℕ, _≤_}
+use native.Mathlib.Omega.{arith}
 use mathlib.Core.Path.{_≡_, sym, ap, subst, _∙_}
 use mathlib.Core.Bool.{false}
 use mathlib.Core.List.{List, List·Memᴰ}
@@ -65,7 +66,7 @@ module _ (c : Chart) (good : badChart c ≡ false) (o : InOrder (levelsOf c)) wh
       let r = result count rows _ (nMarks l q) number (e ∙ n-is c q good few) in
       record {
         result = r;
-        earlier = λ h m k. all-in (subst Led (sym (r .rows-are h)) (marks-earlier l q (not-broken l o))) k;
+        earlier = λ h m k n. all-in (subst Led (sym (r .rows-are h)) (marks-earlier l q (not-broken l o))) k (omega arith);
         apart = λ h. subst Apart (sym (r .rows-are h)) (marks-apart l q);
         quoted = λ h. each-of (r .rows-are h) (marks-quoted l q (n-refusal c q good few ∙ sym (r .number-is) ∙ h));
         stems = λ h. each-of (r .rows-are h) (marks-stem l q);

@@ -48,7 +48,7 @@ module _ {A : Type 0} (count : ℕ) (rows : List A) (r : ℕ) (l : List A) where
       record {
         number-is = rows-number n e;
         no-rows = λ h. rows-none n h e;
-        true-count = λ h. rows-given count rows r l (ap (λ (x : ℕ). rowsAnswer x count rows) (sym h) ∙ e) .few;
+        true-count = λ h. omega (arith, rows-given count rows r l (ap (λ (x : ℕ). rowsAnswer x count rows) (sym h) ∙ e) .few);
         rows-are = λ h. rows-given count rows r l (ap (λ (x : ℕ). rowsAnswer x count rows) (sym h) ∙ e) .same;
       }
 
