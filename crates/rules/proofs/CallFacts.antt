@@ -7,12 +7,18 @@ use lib.ListN.{length, replicate, set}
 use lib.Ieee.{Float, nan, inf}
 use Rattle.chart.specs.declared.Stroke.{Stroke}
 use Rattle.chart.specs.declared.Triple.{Triple}
+use Rattle.chart.specs.declared.Range.{Range}
+use Rattle.chart.specs.declared.Range.the-variants.{Found, Missing}
+use Rattle.chart.specs.declared.EndPoint.{EndPoint}
+use Rattle.chart.specs.declared.EndPoint.the-variants.{At, Nowhere}
 use Rattle.chart.specs.declared.Chart.{Chart}
-use Rattle.rules.specs.Answer.{refused, given}
+use Rattle.rules.specs.Answer.{refused, given, rangeAnswer, endPointAnswer}
 use Rattle.rules.specs.Records.{Levels, Quotes}
 use Rattle.rules.specs.Text.{ascii}
 use Rattle.rules.specs.Refusals.{badSlices, zonesRefusal}
 use Rattle.rules.specs.Calls.{
+  rangeCall,
+  endPointCall,
   zonesCall,
   labelsCall,
   thirdCall,
@@ -54,6 +60,27 @@ turnedSuperior = charted (levels (K .strokes) (K .segments) (K .bigs) (triple 2 
 
 abbrev noPrice : Chart
 noPrice = charted (levels (set (K .strokes) 7 (priced 0 33 38 (price 35) minusZero)) (K .segments) (K .bigs) (K .superiors))
+
+abbrev noNumber : Chart
+noNumber = charted (levels (set (K .strokes) 7 (priced 0 33 38 nan (price 19))) (K .segments) (K .bigs) (K .superiors))
+
+-- Strokes 5, 2, 4, 0, 3, 1, 6 at bars 0 to 6, in two segments of three; then segments that lack their first and their last stroke. Bigs: the
+-- first segment; the first two; first > last; over the segment without a first stroke, without a last one; and with a last that is no segment
+abbrev folded : Chart
+folded =
+    charted
+    (levels
+    (strokesOf 0 (turn 0 5 ∷ turn 1 2 ∷ turn 2 4 ∷ turn 3 0 ∷ turn 4 3 ∷ turn 5 1 ∷ turn 6 6 ∷ []))
+    (triple 0 0 2 ∷ triple 1 3 5 ∷ triple 0 6 4 ∷ triple 1 5 6 ∷ [])
+    (triple 0 0 0 ∷ triple 1 0 1 ∷ triple 0 1 0 ∷ triple 0 2 2 ∷ triple 1 3 3 ∷ triple 1 0 4 ∷ [])
+    [])
+
+-- a range, by its bars, low and high, and an end point
+abbrev found : ℕ → ℕ → ℕ → ℕ → Range
+found from to low high = Found (record { low = price low; high = price high; «start_bar» = from; «end_bar» = to })
+
+abbrev ending : ℕ → ℕ → EndPoint
+ending bar p = At bar (price p)
 
 -- K whose last stroke is joined to nothing and whose last segment has first > last: broken as a live chart, not as a loaded one
 abbrev unjoined : Chart
@@ -104,6 +131,40 @@ abbrev selling : Chart
 selling = charted (chartOf [] (turn 0 1 ∷ turn 1 3 ∷ turn 2 2 ∷ turn 3 4 ∷ turn 4 0 ∷ turn 5 2 ∷ turn 6 1 ∷ turn 7 3 ∷ []))
 
 pub record Facts : Type 0 where
+  -- ranges: 21
+  pub range-k : rangeCall (charted K) (triple 0 1 3) ≡ given (found 5 18 16 20)
+  pub range-strokes : rangeCall folded (triple 0 0 0) ≡ given (found 0 3 0 5)
+  pub range-segments : rangeCall folded (triple 1 0 1) ≡ given (found 0 6 5 6)
+  pub range-turned : rangeCall folded (triple 0 1 0) ≡ given Missing
+  pub range-no-first-stroke : rangeCall folded (triple 0 2 2) ≡ given Missing
+  pub range-no-last-stroke : rangeCall folded (triple 1 3 3) ≡ given Missing
+  pub range-no-segment : rangeCall folded (triple 1 0 4) ≡ given Missing
+  pub range-broken : rangeCall unjoined (triple 0 6 7) ≡ given (found 29 1 9 26)
+  pub range-behind : rangeCall longer (triple 0 0 8) ≡ given Missing
+  pub range-overfull : rangeCall overfull (triple 0 1 1) ≡ refused 21
+  pub range-direction : rangeCall turnedSuperior (triple 0 1 1) ≡ refused 21
+  pub range-price : rangeCall noNumber (triple 0 7 7) ≡ refused 21
+  pub range-21-first : rangeCall noNumber (triple 0 1 0) ≡ refused 21
+  pub range-stands : rangeAnswer 0 Missing ≡ given Missing
+  pub range-refused : rangeAnswer 21 Missing ≡ refused 21
+  pub range-beside : rangeAnswer 21 (found 0 3 0 5) ≡ refused 0
+  -- end points: 21
+  pub end-k : endPointCall (charted K) 3 ≡ given (ending 18 16)
+  pub end-strokes : endPointCall folded 0 ≡ given (ending 3 0)
+  pub end-segments : endPointCall folded 1 ≡ given (ending 6 6)
+  pub end-turned : endPointCall folded 2 ≡ given (ending 3 0)
+  pub end-no-first-stroke : endPointCall folded 3 ≡ given (ending 5 1)
+  pub end-no-last-stroke : endPointCall folded 4 ≡ given Nowhere
+  pub end-no-segment : endPointCall folded 5 ≡ given Nowhere
+  pub end-no-big : endPointCall folded 6 ≡ given Nowhere
+  pub end-behind : endPointCall longer 8 ≡ given Nowhere
+  pub end-overfull : endPointCall overfull 1 ≡ refused 21
+  pub end-direction : endPointCall turnedSuperior 1 ≡ refused 21
+  pub end-price : endPointCall noNumber 7 ≡ refused 21
+  pub end-21-first : endPointCall noNumber 8 ≡ refused 21
+  pub end-stands : endPointAnswer 0 Nowhere ≡ given Nowhere
+  pub end-refused : endPointAnswer 21 Nowhere ≡ refused 21
+  pub end-beside : endPointAnswer 21 (ending 3 0) ≡ refused 0
   -- overlap zones: 21, 11
   pub zones-k : zonesCall (charted K) ≡ given (zoneK ∷ [])
   pub zones-empty : zonesCall (charted (levels [] [] [] [])) ≡ given []
@@ -200,6 +261,38 @@ pub facts : Facts
 unfolding everything
 facts =
     record {
+      range-k = refl;
+      range-strokes = refl;
+      range-segments = refl;
+      range-turned = refl;
+      range-no-first-stroke = refl;
+      range-no-last-stroke = refl;
+      range-no-segment = refl;
+      range-broken = refl;
+      range-behind = refl;
+      range-overfull = refl;
+      range-direction = refl;
+      range-price = refl;
+      range-21-first = refl;
+      range-stands = refl;
+      range-refused = refl;
+      range-beside = refl;
+      end-k = refl;
+      end-strokes = refl;
+      end-segments = refl;
+      end-turned = refl;
+      end-no-first-stroke = refl;
+      end-no-last-stroke = refl;
+      end-no-segment = refl;
+      end-no-big = refl;
+      end-behind = refl;
+      end-overfull = refl;
+      end-direction = refl;
+      end-price = refl;
+      end-21-first = refl;
+      end-stands = refl;
+      end-refused = refl;
+      end-beside = refl;
       zones-k = refl;
       zones-empty = refl;
       zones-behind = refl;

@@ -21,7 +21,7 @@ use Rattle.rules.specs.Calls as calls
 -- `unfolding everything` unfolds what the line below names; its value says nothing
 unfoldable pub everything : ℕ
 unfolding records.levelsOf
-    answer.answered answer.rowsAnswer
+    answer.answered answer.rowsAnswer answer.rangeAnswer answer.endPointAnswer
     ranges.firstStroke ranges.lastStroke ranges.spanned ranges.rangeOf ranges.endPoint
     zones.opposing zones.begin zones.joins zones.join zones.cut zones.runs zones.within zones.opposingOf zones.zonesOf zones.zonesFrom
     zones.membersIn zones.overlapZones zones.membersOf
@@ -49,8 +49,8 @@ unfolding records.levelsOf
     refusals.held refusals.withdrawRefusal refusals.deriveRefusal refusals.zonesRefusal refusals.unequal refusals.badSlices
     refusals.badQuotes refusals.thirdRefusal refusals.endsOutside refusals.nRefusal refusals.lacks refusals.segmentClassesRefusal
     refusals.bigClassesRefusal
-    calls.onChart calls.zonesCall calls.labelsCall calls.thirdCall calls.nCall calls.segmentClassesCall calls.bigClassesCall
-    calls.firstMarksCall
+    calls.onChart calls.rangeCall calls.endPointCall calls.zonesCall calls.labelsCall calls.thirdCall calls.nCall
+    calls.segmentClassesCall calls.bigClassesCall calls.firstMarksCall
     price.isPrice price.allPrices price.lower price.higher
     bytes.bytesOf bytes.ofBytes bytes.readBits
     ieee.lt ieee.le ieee.eq ieee.ofInt ieee.toBits ieee.ofBits ieee.fits

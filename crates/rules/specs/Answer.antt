@@ -4,6 +4,10 @@ use mathlib.Core.Bool.{cond}
 use mathlib.Core.List.{List}
 use lib.ListN.{length, take}
 use lib.Dec.{eqb, leb}
+use Rattle.chart.specs.declared.Range.{Range}
+use Rattle.chart.specs.declared.Range.the-variants.{Found, Missing}
+use Rattle.chart.specs.declared.EndPoint.{EndPoint}
+use Rattle.chart.specs.declared.EndPoint.the-variants.{At, Nowhere}
 
 -- refused, or what the call gives
 pub data AnswerBy (R A : Type 0) : Type 0 where
@@ -29,3 +33,15 @@ answered (suc n) a = refused (suc n)
 unfoldable pub rowsAnswer : {A : Type 0} → ℕ → ℕ → List A → Answer (List A)
 rowsAnswer zero count rows = cond (leb count (length rows)) (given (take count rows)) (refused 0)
 rowsAnswer (suc n) count rows = cond (eqb count 0) (refused (suc n)) (refused 0)
+
+-- Those of a struct with a number and a range, and with a number and an end point: what stands there where the number is 0, and else the
+-- number, beside Missing or Nowhere. A range or an end point beside a refusal stands for no answer
+unfoldable pub rangeAnswer : ℕ → Range → Answer Range
+rangeAnswer zero r = given r
+rangeAnswer (suc n) Missing = refused (suc n)
+rangeAnswer (suc n) (Found s) = refused 0
+
+unfoldable pub endPointAnswer : ℕ → EndPoint → Answer EndPoint
+endPointAnswer zero e = given e
+endPointAnswer (suc n) Nowhere = refused (suc n)
+endPointAnswer (suc n) (At bar price) = refused 0

@@ -3,14 +3,19 @@ use Prim.Native.Nat.{ℕ}
 use mathlib.Core.Bool.{Bool, cond}
 use mathlib.Core.List.{List}
 use lib.Dec.{eqb}
+use Rattle.chart.specs.declared.Triple.{Triple}
+use Rattle.chart.specs.declared.Range.{Range}
+use Rattle.chart.specs.declared.EndPoint.{EndPoint}
 use Rattle.chart.specs.declared.Zone.{Zone}
 use Rattle.chart.specs.declared.Class.{Class}
 use Rattle.chart.specs.declared.ThirdMark.{ThirdMark}
 use Rattle.chart.specs.declared.NMark.{NMark}
 use Rattle.chart.specs.declared.FirstMark.{FirstMark}
 use Rattle.chart.specs.declared.Chart.{Chart}
-use Rattle.rules.specs.Answer.{Answer, refused, answered}
+use Rattle.chart.specs.Table.{pointOf}
+use Rattle.rules.specs.Answer.{Answer, refused, given, answered}
 use Rattle.rules.specs.Records.{Levels, levelsOf, Quotes}
+use Rattle.rules.specs.Ranges.{rangeOf, endPoint}
 use Rattle.rules.specs.Zones.{overlapZones}
 use Rattle.rules.specs.Marks.{thirdMarks, nMarks}
 use Rattle.rules.specs.Classes.{segmentClasses, bigClasses}
@@ -30,6 +35,14 @@ use Rattle.rules.specs.Refusals.{
 -- every call that takes a chart has 21 first
 unfoldable pub onChart : {A : Type 0} → Chart → (Levels → Answer A) → Answer A
 onChart c f = cond (badChart c) (refused 21) (f (levelsOf c))
+
+-- resolve_bigseg_range; a missing range is an answer
+unfoldable pub rangeCall : Chart → Triple → Answer Range
+rangeCall c big = onChart c (λ (l : Levels). given (rangeOf l big))
+
+-- resolve_sup_end_point, of the big with an index
+unfoldable pub endPointCall : Chart → ℕ → Answer EndPoint
+endPointCall c i = onChart c (λ (l : Levels). given (pointOf (endPoint l i)))
 
 -- detect_bigseg_zhongshus_by_overlap
 unfoldable pub zonesCall : Chart → Answer (List Zone)
