@@ -24,7 +24,7 @@ use Rattle.rules.specs.Records.{Levels, levelsOf}
 use Rattle.rules.specs.Ranges.{firstStroke, lastStroke, spanned, rangeOf, endPoint}
 use Rattle.laws.proofs.Arrays.{at-in, at-out}
 use Rattle.laws.proofs.Lists.{map-append}
-use Rattle.levels.specs.Read.{Within, heldIf, rangeFrom}
+use Rattle.levels.specs.Read.{SafeIndex, heldIf, rangeFrom}
 
 -- what an array's place outside holds
 abbrev pub no-triple : Triple
@@ -114,7 +114,7 @@ module _ (c : Chart) (m n : ℕ) (b : Triple) (i j p q : ℕ) where
   -- the range by such records is the big's
   pub range-read :
       length (c .segments) ≡ 256 → length (c .strokes) ≡ 512 → m ≡ min (c .«segment_count») 256 → n ≡ min (c .«stroke_count») 512
-      → Within (b .first) 256 i → Within (b .last) 256 j → Within (a .first) 512 p → Within (z .last) 512 q
+      → SafeIndex (b .first) 256 i → SafeIndex (b .last) 256 j → SafeIndex (a .first) 512 p → SafeIndex (z .last) 512 q
       → rangeFrom m n b a z (getD (c .strokes) p no-stroke) (getD (c .strokes) q no-stroke) ≡ rangeOf (levelsOf c) b
   unfolding rangeFrom rangeOf firstStroke lastStroke levelsOf
   range-read ls lt em en wi wj wp wq =
@@ -150,7 +150,7 @@ pub table-all :
     → rangesIn k slots ≡ map f (take k bigs) → rangesIn n slots ≡ map f (take n bigs)
 table-all f n k slots bigs hs hb e done = rw (← clipped n 256 slots hs, ← clipped n 256 bigs hb, ← e) done
 
--- ---- one way through resolve_sup_end_point each
+-- ---- one way through end_point_of each
 module _ (c : Levels) (i : ℕ) where
   pub end-no-big : getElem? (c .bigs) i ≡ none → Nowhere ≡ pointOf (endPoint c i)
   unfolding endPoint

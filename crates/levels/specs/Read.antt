@@ -10,8 +10,8 @@ use Rattle.chart.specs.declared.Range.{Range}
 use Rattle.chart.specs.declared.Range.the-variants.{Missing}
 use Rattle.rules.specs.Ranges.{spanned}
 
--- k is a place among n, and i itself where i is one
-pub record Within (i n k : ℕ) : Type 0 where
+-- k is an index below n, and i itself where i is below n
+pub record SafeIndex (i n k : ℕ) : Type 0 where
   pub below : k < n
   pub same : i < n → k ≡ i
 

@@ -16,9 +16,11 @@ ghost use lib.ListN.{take};
 ghost use Rattle.rules.specs.Lists.{any};
 ghost use Rattle.rules.specs.Records.{levelsOf};
 ghost use Rattle.rules.specs.Ranges.{spanned, rangeOf, endPoint};
+ghost use Rattle.rules.specs.Answer.{rangeAnswer, endPointAnswer};
+ghost use Rattle.rules.specs.Calls.{rangeCall, endPointCall};
 ghost use Rattle.rules.specs.Refusals.{badPrices, wrongStroke, wrongTriple, badChart};
 ghost use Rattle.chart.specs.Table.{rangesIn, pointOf};
-ghost use Rattle.levels.specs.Read.{Within, rangeFrom};
+ghost use Rattle.levels.specs.Read.{SafeIndex, rangeFrom};
 
 // ---- refusal 21
 
@@ -138,7 +140,7 @@ fn at_most(n: u16, size: u16) -> u16
 // i where it is below n, and some place below n elsewhere.
 pub fn within(i: u16, n: u16) -> usize
     requires { ⌜ 0 < n ⌝ }
-    ensures { λ r. ⌜ Within i n r ⌝ }
+    ensures { λ r. ⌜ SafeIndex i n r ⌝ }
 {
     (i % n) as usize
 }
@@ -183,8 +185,8 @@ pub fn range_from(
     span_of(s, e)
 }
 
-// The range of a big.
-pub fn resolve_bigseg_range(chart: Chart, big: Triple) -> Range
+// The range of a big, without 21.
+fn range_of(chart: Chart, big: Triple) -> Range
     ensures { λ r. ⌜ r ≡ rangeOf (levelsOf chart) big ⌝ }
 {
     let segments = at_most(chart.segment_count, 256);
@@ -198,6 +200,28 @@ pub fn resolve_bigseg_range(chart: Chart, big: Triple) -> Range
     let s = chart.strokes[p];
     let e = chart.strokes[q];
     range_from(big, a, z, s, e, segments, strokes)
+}
+
+// The range of a big, with the number of the refusal or 0. Beside a refusal it is missing.
+pub struct BigRange {
+    pub number: u8,
+    pub range: Range,
+}
+
+// The range of a big: refused with 21 only. The chart is copied and tested at each call; for all bigs there is ranges_of.
+pub fn resolve_bigseg_range(chart: Chart, big: Triple) -> BigRange
+    ensures { λ r. ⌜ rangeAnswer (r .number) (r .range) ≡ rangeCall chart big ⌝ }
+{
+    if bad_chart(chart) {
+        return BigRange {
+            number: 21,
+            range: Range::Missing,
+        };
+    }
+    BigRange {
+        number: 0,
+        range: range_of(chart, big),
+    }
 }
 
 // The ranges of the bigs, in their places.
@@ -235,8 +259,8 @@ pub fn ranges_of(chart: Chart) -> Ranges
 
 // ---- end points
 
-// The end point of the big with an index, whether its range is missing or not.
-pub fn resolve_sup_end_point(chart: Chart, big: u16) -> EndPoint
+// The end point of the big with an index, whether its range is missing or not, without 21.
+fn end_point_of(chart: Chart, big: u16) -> EndPoint
     ensures { λ r. ⌜ r ≡ pointOf (endPoint (levelsOf chart) big) ⌝ }
 {
     if at_most(chart.big_count, 256) <= big {
@@ -252,4 +276,26 @@ pub fn resolve_sup_end_point(chart: Chart, big: u16) -> EndPoint
     }
     let e = chart.strokes[z.last as usize];
     EndPoint::At(e.end_bar, e.end_price)
+}
+
+// The end point of a big, with the number of the refusal or 0. Beside a refusal there is none.
+pub struct BigEndPoint {
+    pub number: u8,
+    pub end_point: EndPoint,
+}
+
+// The end point of the big with an index: refused with 21 only. The chart is copied and tested at each call.
+pub fn resolve_sup_end_point(chart: Chart, big: u16) -> BigEndPoint
+    ensures { λ r. ⌜ endPointAnswer (r .number) (r .«end_point») ≡ endPointCall chart big ⌝ }
+{
+    if bad_chart(chart) {
+        return BigEndPoint {
+            number: 21,
+            end_point: EndPoint::Nowhere,
+        };
+    }
+    BigEndPoint {
+        number: 0,
+        end_point: end_point_of(chart, big),
+    }
 }
