@@ -36,7 +36,7 @@ def cut(data):
     return out
 
 # what `report` prints, in its order, as oracle/main.rs names it
-SECTIONS = ["zones", "third", "threen", "labels", "classes", "firsts"]
+SECTIONS = ["ranges", "zones", "third", "threen", "labels", "classes", "firsts"]
 
 def turns(points, up=True):
     """strokes from turn (bar, price) to turn"""

@@ -1,9 +1,10 @@
 // Prints what the reference Rust gives for charts. Reading, the refusals, a zone's members and a third mark's ground, which the reference
-// lacks, are written here from document 01 alone. Of a third mark side, bar, price and place among the rows are the reference's; the ground is
-// that of `thirds`, 01's rule over the reference's zones, and its rows must be the reference's, or this program panics.
+// lacks, are written here from document 01 alone, over the reference's ranges and end points. Of a third mark side, bar, price and place among
+// the rows are the reference's; the ground is that of `thirds`, 01's rule over the reference's zones, and its rows must be the reference's, or
+// this program panics.
 //   oracle one SECTION..   a chart file on standard input
 //   oracle many SECTION..  many: each a length (u32, little-endian) and that many bytes; a line `CHART i` before each
-// Sections: zones third threen labels classes firsts
+// Sections: ranges zones third threen labels classes firsts
 use chanlun::{zhongshu as z, Stroke};
 use std::io::{Read, Write};
 
@@ -51,24 +52,14 @@ fn read(b: &[u8], places: usize) -> Result<Chart, (usize, usize)> {
     Ok(c)
 }
 
-struct Range { low: f64, high: f64, start_bar: usize, end_bar: usize }
-
-// of a big, where it is not missing
-fn range(c: &Chart, k: usize) -> Option<Range> {
-    let (f, l, _) = c.bigs[k];
-    if f > l || l >= c.segments.len() { return None; }
-    let s = c.strokes.get(c.segments[f].0)?;
-    let e = c.strokes.get(c.segments[l].1)?;
-    let (a, b) = (s.start_price, e.end_price);
-    let (low, high) = if a <= b { (a, b) } else { (b, a) };
-    Some(Range { low, high, start_bar: s.start_bar, end_bar: e.end_bar })
+// The range of a big, where it is not missing. The reference's own function is private, so this is the zone, of low dd and high gg, that the overlap
+// function gives for one superior of the other direction over that big alone.
+fn range(c: &Chart, k: usize) -> Option<z::BigSegmentZhongShu> {
+    z::detect_bigseg_zhongshus_by_overlap(&[(k, k, !c.bigs[k].2)], &c.bigs, &c.segments, &c.strokes).pop()
 }
 
 // end bar and end price of a big, range missing or not
-fn end_point(c: &Chart, k: usize) -> Option<(usize, f64)> {
-    let s = c.strokes.get(c.segments.get(c.bigs.get(k)?.1)?.1)?;
-    Some((s.end_bar, s.end_price))
-}
+fn end_point(c: &Chart, k: usize) -> Option<(usize, f64)> { chanlun::guidao::end_point(k, &c.bigs, &c.segments, &c.strokes) }
 
 // first member and member count of each zone, by 01's rule
 fn members(c: &Chart) -> Vec<(usize, usize)> {
@@ -78,7 +69,7 @@ fn members(c: &Chart) -> Vec<(usize, usize)> {
         let mut run: Vec<(usize, f64, f64)> = vec![];
         for k in first..=last {
             if c.bigs[k].2 == up { continue; }
-            let Some(Range { low, high, .. }) = range(c, k) else { continue };
+            let Some(z::BigSegmentZhongShu { dd: low, gg: high, .. }) = range(c, k) else { continue };
             let joins = match run.len() {
                 0 => true,
                 1 => f64::max(run[0].1, low) < f64::min(run[0].2, high),
@@ -147,6 +138,16 @@ fn hex(x: f64) -> String { format!("{:016X}", x.to_bits()) }
 
 fn side(buy: bool) -> &'static str { if buy { "buy" } else { "sell" } }
 
+// a line for each big: its range or `missing`, then its end point or `none`
+fn ranges(c: &Chart, out: &mut String) {
+    *out += &format!("RANGES {}\n", c.bigs.len());
+    for k in 0..c.bigs.len() {
+        let range = range(c, k).map_or("missing".to_string(), |r| format!("{} {} {} {}", r.start_bar, r.end_bar, hex(r.dd), hex(r.gg)));
+        let end = end_point(c, k).map_or("none".to_string(), |(bar, price)| format!("{bar} {}", hex(price)));
+        *out += &format!("{range} {end}\n");
+    }
+}
+
 // 10: two items or more, and one of them lacks a stroke or a segment
 fn whole_segments(c: &Chart) -> bool { c.segments.len() < 2 || c.segments.iter().all(|s| s.0 < c.strokes.len() && s.1 < c.strokes.len()) }
 fn whole_bigs(c: &Chart) -> bool {
@@ -203,6 +204,7 @@ fn report(bytes: &[u8], sections: &[String], out: &mut String) {
     let zones = z::detect_bigseg_zhongshus_by_overlap(&c.superiors, &c.bigs, &c.segments, &c.strokes);
     for s in sections {
         match s.as_str() {
+            "ranges" => ranges(&c, out),
             "zones" if zones.len() > 256 => *out += "ZONES refused 11\n",
             "zones" => {
                 *out += &format!("ZONES {}\n", zones.len());

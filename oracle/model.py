@@ -23,9 +23,22 @@ def rng(c, b):
     if b[1] > b[2] and not on('range-any-order'): return None
     s, e = first_stroke(c, b), last_stroke(c, b)
     if s is None or e is None: return None
+    if on('range-of-first-stroke'): e = s
+    if on('range-of-last-stroke'): s = e
     return (min(s[3], e[4]), max(s[3], e[4]), s[1], e[2])
 def end_point(c, i):
-    b = get(c.bigs, i); return None if b is None else last_stroke(c, b)
+    """the last stroke of a big's last segment, or None"""
+    b = get(c.bigs, i)
+    if b is None or on('end-point-needs-range') and rng(c, b) is None: return None
+    return last_stroke(c, b)
+def ranges(c):
+    """of each big, its range and its end point"""
+    return [(rng(c, b), end_point(c, i)) for i, b in enumerate(c.bigs)]
+def asked(*functions):
+    """the switches that functions ask for"""
+    return list(dict.fromkeys(re.findall(r"on\('([^']+)'\)", ''.join(map(inspect.getsource, functions)))))
+def range_switches():
+    return asked(rng, end_point)
 
 # ---- zones
 def zones(c):
@@ -207,8 +220,7 @@ def third(c, with_anchors=True):
 
 def third_switches():
     """the switches that third marks ask for, but those of the zones"""
-    asked = ''.join(map(inspect.getsource, (rng, scan, price_at, inside, beats, anchors, ends_after, anchor_c, anchor_bars, third)))
-    return list(dict.fromkeys(re.findall(r"on\('([^']+)'\)", asked)))
+    return asked(rng, scan, price_at, inside, beats, anchors, ends_after, anchor_c, anchor_bars, third)
 
 # ---- 3+N: (buy, order, bar, price)
 EVENTS = set()  # what the rows of the last call of n3 do not show of it
@@ -340,8 +352,7 @@ def n3(c):
 
 def n3_switches():
     """the switches that 3+N marks ask for, but those of the zones and of third marks"""
-    asked = ''.join(map(inspect.getsource, (push, superior_bars, to_number, superior_rows, anchor_limit, anchor_rows, n3)))
-    return list(dict.fromkeys(re.findall(r"on\('([^']+)'\)", asked)))
+    return asked(push, superior_bars, to_number, superior_rows, anchor_limit, anchor_rows, n3)
 
 # ---- labels
 def col_name(n):
@@ -477,10 +488,12 @@ def class_rows(byte, items): return [f'{k[0]} {k[1]} {int(k[2])} {3 if k[3] else
 def nine(c):
     """some stroke's end bar is outside the slices"""
     return any(s[2] >= len(c.highs) for s in c.strokes)
+def range_row(r, e): return ('missing ' if r is None else f'{r[2]} {r[3]} {hx(r[0])} {hx(r[1])} ') + ('none' if e is None else f'{e[2]} {hx(e[4])}')
 def report(c):
     zs = zones(c)
     many = len(zs) > 256
-    o = ['ZONES refused 11'] if many else section('ZONES', [f'{z.sup} {z.start} {z.end} {hx(z.zd)} {hx(z.zg)} {hx(z.dd)} {hx(z.gg)} {z.first} {z.members}' for z in zs])
+    o = section('RANGES', [range_row(r, e) for r, e in ranges(c)])
+    o += ['ZONES refused 11'] if many else section('ZONES', [f'{z.sup} {z.start} {z.end} {hx(z.zd)} {hx(z.zg)} {hx(z.dd)} {hx(z.gg)} {z.first} {z.members}' for z in zs])
     o += ['THIRD refused 11'] if many else section('THIRD', [f'{side(m[0])} {m[1]} {hx(m[2])} {m[3]} {hx(m[4])}' for m in third(c)])
     if nine(c): o += ['THREEN refused 9']
     elif many: o += ['THREEN refused 11']

@@ -1,9 +1,11 @@
 // The rows of `report`, some of them lines of `replay` too, written to standard output. Of printing only safety is proved.
 use chart::Class;
+use chart::EndPoint;
 use chart::FirstMark;
 use chart::Ground;
 use chart::Label;
 use chart::NMark;
+use chart::Range;
 use chart::ThirdMark;
 use chart::Zone;
 ghost use Prim.Native.Nat.{_≤_};
@@ -83,6 +85,40 @@ pub fn shown(count: u16, size: usize) -> usize
 {
     let n = count as usize;
     if n < size { n } else { size }
+}
+
+// The range of a big, with a space behind it.
+fn print_range(range: Range) {
+    match range {
+        Range::Found(span) => {
+            print_number(span.start_bar);
+            print_number(span.end_bar);
+            print_price(span.low);
+            print_price(span.high);
+        }
+        Range::Missing => {
+            io::write_all(1, b"missing ");
+        }
+    }
+}
+
+fn print_end_point(end_point: EndPoint) {
+    match end_point {
+        EndPoint::At(bar, price) => {
+            print_number(bar);
+            io::write_all(1, &hex_of(price));
+        }
+        EndPoint::Nowhere => {
+            io::write_all(1, b"none");
+        }
+    }
+}
+
+// A row of the section RANGES: the range of a big, and its end point.
+pub fn print_big(range: Range, end_point: EndPoint) {
+    print_range(range);
+    print_end_point(end_point);
+    io::write_all(1, b"\n");
 }
 
 // A row of the section ZONES.

@@ -3,7 +3,31 @@
 use chart::Chart;
 use classes::ClassRows;
 use first_marks::FirstRows;
-ghost use Prim.Native.Nat.{_≤_};
+ghost use Prim.Native.Nat.{_≤_, _<_};
+
+// The range and the end point of the big with an index.
+fn print_big(chart: Chart, k: usize)
+    requires { ⌜ k < 256 ⌝ }
+{
+    let big = chart.bigs[k];
+    let found = levels::resolve_bigseg_range(chart, big);
+    let end = levels::resolve_sup_end_point(chart, k as u16);
+    let range = found.range;
+    let end_point = end.end_point;
+    printing::print_big(range, end_point);
+}
+
+// The ranges and end points of all bigs. Both calls are refused with 21 only, so that one number heads the section.
+fn print_ranges(chart: Chart) {
+    let refusal = levels::resolve_sup_end_point(chart, 0);
+    printing::print_head(b"RANGES", refusal.number, chart.big_count);
+    if refusal.number != 0 {
+        return;
+    }
+    for k in 0..printing::shown(chart.big_count, 256) {
+        print_big(chart, k);
+    }
+}
 
 fn print_zones(chart: Chart) {
     let found = zones::detect_bigseg_zhongshus_by_overlap(chart);
@@ -83,6 +107,7 @@ fn print_first_sells(chart: Chart, case3: u8) {
 
 // All sections of a chart and its bars.
 fn print_sections(chart: Chart, highs: &[f64], lows: &[f64]) {
+    print_ranges(chart);
     print_zones(chart);
     print_thirds(chart, highs, lows);
     print_threens(chart, highs, lows);
