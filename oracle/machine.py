@@ -1,13 +1,16 @@
-"""Document 01's plain machine, fed with calls alone, and what the program `replay` must print of a log of calls. Zones and classes are model.py's.
+"""Document 01's plain machine, fed with calls alone, and what the program `replay` must print of a log. Zones, classes and marks are model.py's.
 A call is a letter and its fields, in the order of the log: S add stroke, G B U add segment, big, superior, L lengthen, W withdraw, D E derive bigs and
-superiors. A price is its 64 bits; comparisons are those of floats. SW holds the wrong readings that are on, as in model.py."""
+superiors. Q is no call: its high and low are one more bar of the slices that the marks are asked with. An entry of a log is a call or a Q. A price is its
+64 bits; comparisons are those of floats. SW holds the wrong readings that are on, as in model.py."""
 import struct
 import model
 
 SIZES = (512, 256, 256, 256)
 MOST = 0xFFFFFFFF   # where the count stops
 ROOM = 65536        # bytes that a log has at most
-FIELDS = {c: struct.Struct(f) for c, f in (('S', '<BHHQQ'), ('G', '<BHH'), ('B', '<BHH'), ('U', '<BHH'), ('L', '<H'), ('W', '<B'), ('D', '<B'), ('E', '<B'))}
+BARS = 2048         # bars that a log has at most
+FIELDS = {c: struct.Struct(f) for c, f in (
+    ('S', '<BHHQQ'), ('G', '<BHH'), ('B', '<BHH'), ('U', '<BHH'), ('L', '<H'), ('W', '<B'), ('D', '<B'), ('E', '<B'), ('Q', '<QQ'))}
 LEVEL = {'S': 0, 'G': 1, 'B': 2, 'U': 3, 'D': 2, 'E': 3}
 NAMES = ('stroke', 'segment', 'big', 'superior')
 # 01's numbers of each call, in 01's order
@@ -92,13 +95,18 @@ def refusal(m, letter, *fields):
 # ---- the machine
 
 class Machine:
-    """strokes (d, start bar, end bar, start price, end price), segments, bigs, superiors (d, first, last), and the count"""
+    """strokes (d, start bar, end bar, start price, end price), segments, bigs, superiors (d, first, last), and the count; beside them the bars (high,
+    low) of the log, which no call sees"""
     def __init__(self):
-        self.levels, self.count, self.kept = [[], [], [], []], 0, None
+        self.levels, self.count, self.bars, self.kept, self.marked = [[], [], [], []], 0, [], None, None
 
     def chart(self):
         """model.py's chart, with prices as floats"""
         return model.Chart([(d, a, e, value(p), value(q)) for d, a, e, p, q in self.levels[0]], *self.levels[1:], [], [])
+
+    def lent(self):
+        """the chart with the bars as its slices"""
+        return (self.marked or self.chart())._replace(highs=[value(h) for h, _ in self.bars], lows=[value(l) for _, l in self.bars])
 
     def zones(self):
         """the overlap rule applied afresh"""
@@ -131,15 +139,52 @@ class Machine:
         if number == 0:
             self.kept = self.zones() if SW and on('zones kept at ' + letter) else None
             self.step(letter, *fields)
+        if on('bars dropped at a call'): self.bars = []
         return number
+
+    def entry(self, letter, *fields):
+        """the number of a call; a Q has none"""
+        if letter != 'Q': return self.call(letter, *fields)
+        self.bars.append(fields[::-1] if on('Q low first') else fields)
+        if on('bars newest first'): self.bars.insert(0, self.bars.pop())
+        if on('Q counted'): self.count = min(MOST, self.count + 1)
+        if on('marks of the chart at the last Q'): self.marked = model.Chart(*map(list, self.chart()))
+        return 0 if on('Q answered') else None
+
+# ---- third and 3+N marks over the log's bars
+
+def lent_refusal(m, *numbers):
+    """the first of a mark call's numbers that holds, or 0. Not asked: 8, as the slices are equally long, and 11, as superiors of a live chart share no big"""
+    bad = any(not (is_price(h) or on('Q high any')) or not (is_price(l) or on('Q low any')) for h, l in m.bars)
+    outside = any(s[2] >= len(m.bars) + on('9 one bar later') for s in m.lent().strokes)
+    return next((n for n in numbers if {1: bad, 9: outside}[n]), 0)
+
+def third_rows(m):
+    """fields of the third marks, or `refused N`"""
+    number = lent_refusal(m, 1, 9) if on('third refused 9 too') else lent_refusal(m, 1)
+    if number: return [f'refused {number}']
+    return [f'{model.side(buy)} {bar} {model.hx(price)} {kind} {model.hx(ground)}' for buy, bar, price, kind, ground in model.third(m.lent())]
+
+def threen_rows(m):
+    """fields of the 3+N marks, or `refused N`"""
+    number = lent_refusal(m, 9, 1) if on('9 before 1') else lent_refusal(m, 1) if on('9 not asked') else lent_refusal(m, 1, 9)
+    if number: return [f'refused {number}']
+    return [f'{model.side(buy)} {order} {bar} {model.hx(price)}' for buy, order, bar, price in model.n3(m.lent())]
+
+def mark_lines(m):
+    """of a log with a bar, `third` and `threen` lines"""
+    if not m.bars and not on('marks without a Q'): return []
+    both = [('third', third_rows(m)), ('threen', threen_rows(m))]
+    return [f'{name} {row}' for name, rows in (both[::-1] if on('threen before third') else both) for row in rows]
 
 # ---- the program
 
 def spelled(log):
-    """the calls of a log, or the offset of the first that is bad: with another letter, cut short, or ending behind the 65,536th byte"""
+    """the entries of a log, or the offset of the first that is bad: with another letter, cut short, ending behind the 65,536th byte, or a Q too many"""
     if on('behind 65,536 nothing read'): log = log[:ROOM]
     room = len(log) if on('any length taken') else ROOM + on('one byte more taken') - on('one byte fewer taken')
-    at, calls = 0, []
+    most = BARS + on('a Q more taken') - on('a Q fewer taken')
+    at, bars, entries = 0, 0, []
     while at < len(log):
         letter = chr(log[at])
         fields = FIELDS.get(letter)
@@ -149,9 +194,12 @@ def spelled(log):
             if on('cut call left out'): break
             return len(log) if on('offset of the cut') else at
         if at + 1 + fields.size > room: return at
-        calls.append((letter, *fields.unpack_from(log, at + 1)))
+        over = letter == 'Q' and bars == most
+        if over and not on('Q too many passed over'): return at
+        if not over: entries.append((letter, *fields.unpack_from(log, at + 1)))
+        bars += letter == 'Q' and not over
         at += 1 + fields.size
-    return calls
+    return entries
 
 def zone_row(z): return f'{z.sup} {z.start} {z.end} {model.hx(z.zd)} {model.hx(z.zg)} {model.hx(z.dd)} {model.hx(z.gg)} {z.first} {z.members}'
 
@@ -159,15 +207,17 @@ def printed(answers, m):
     lines = [*map(str, answers), f'count {m.count}']
     lines += ['stroke %d %d %d %016X %016X' % s for s in m.levels[0]]
     lines += ['%s %d %d %d' % (name, *t) for name, level in zip(NAMES[1:], m.levels[1:]) for t in level]
-    lines += ['zone ' + zone_row(z) for z in m.zones()]
+    zones = ['zone ' + zone_row(z) for z in m.zones()]
+    lines += mark_lines(m) + zones if on('marks before zones') else zones + mark_lines(m)
     return ''.join(line + '\n' for line in lines).encode()
 
 def replayed(log):
     """the bytes that `replay` prints"""
-    calls = spelled(log)
-    if isinstance(calls, int): return b'bad log at %d\n' % calls
+    entries = spelled(log)
+    if isinstance(entries, int): return b'bad log at %d\n' % entries
     m = Machine()
-    return printed([m.call(*c) for c in calls], m)
+    numbers = [m.entry(*e) for e in entries]
+    return printed([n for n in numbers if n is not None], m)
 
 # ---- switches
 
@@ -182,9 +232,13 @@ def switches():
     prices = ['nan-a-price', 'infinity-a-price', 'minus-zero-a-price', 'zero-no-price', 'subnormal-no-price']
     others = each('L', 'same last taken', 'one behind taken') + each('W', 'under any record refused', 'held record taken')
     others += each('DE', 'byte 2 taken', 'on any level', 'byte as 0', 'byte as 1', 'of nothing not counted') + ['E from segments', 'refused counts']
-    whole = ['zones kept at ' + letter for letter in FIELDS] + ['unknown letter passed over', 'cut call left out', 'offset of the cut']
+    whole = ['zones kept at ' + letter for letter in ORDER] + ['unknown letter passed over', 'cut call left out', 'offset of the cut']
     whole += ['behind 65,536 nothing read', 'any length taken', 'one byte more taken', 'one byte fewer taken']
-    return order_switches() + adds + prices + others + whole
+    bars = ['Q low first', 'bars newest first', 'bars dropped at a call', 'Q counted', 'Q answered']
+    bars += ['a Q more taken', 'a Q fewer taken', 'Q too many passed over', 'Q high any', 'Q low any']
+    bars += ['third refused 9 too', '9 before 1', '9 not asked', '9 one bar later']
+    bars += ['marks of the chart at the last Q', 'marks without a Q', 'threen before third', 'marks before zones']
+    return order_switches() + adds + prices + others + whole + bars
 
 # No log tells these apart. A new last at or below the present one is a big, so 4 and 5 of lengthen exclude each other; without a superior there is no
 # present last. A level that is empty holds no record. Prices that are equal have the same bits. Of the accepted calls only U, L, E and a withdrawal of
