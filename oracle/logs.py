@@ -323,6 +323,49 @@ def for_most_bars():
 
 def for_bars(): return for_rows() + for_one() + for_nine() + for_most_bars()
 
+# Where third and 3+N marks can be read two ways, or a test has a border, and a live chart tells the readings apart: found as those of charts.THIRDS
+READINGS = {
+    "a zone that starts at the end bar stops nothing": charts.steps([2, 0, 1, 0, 1], [(1, 0, 0), (0, 1, 3)], [3] * 5),
+    "a superior of the same direction is no reversal": charts.steps([1, 0, 2, 1], [(1, 0, 0), (1, 1, 1)], [4] * 4),
+    "the first reversal counts, not the last": charts.steps([3, 2, 3, 2, 3], [(1, 0, 0), (0, 1, 1), (0, 2, 3)], [4] * 5, {3: (0, 3, 3)}),
+    "the pair's second big may have any direction": charts.steps([1, 0, 1, 0], [(1, 0, 0)], [2] * 4, {2: (1, 2, 2)}),
+    "a third mark of each side at one bar": charts.steps(
+        [3, 2, 3, 1, 2, 1], [(1, 1, 1), (0, 2, 4)], [4, 0, 4, 4, 0, 4], {2: (1, 2, 2), 3: (0, 3, 3)}, {}, -1.0),
+    "a row of each side at one bar": charts.steps(
+        [1, 3, 2, 3, 0, 1, 0, 2, 1], [(1, 2, 3), (0, 4, 7)], [4, 4, 4, 4, 0, 4, 4, 4, 0], {0: (0, 0, 0), 1: (1, 1, 1), 6: (0, 6, 6)}, {}, -1.0),
+    "a bar hit by two zones is one row": charts.steps([1, 2, 0, 2, 0], [(1, 0, 0), (1, 1, 2)], [3] * 5, {0: (0, 0, 0)}, {}, -1.0),
+    "a bar hit by a zone and an anchor is one row": charts.steps([0, 1, 0, 1, 0], [(1, 1, 1)], [1, 1, 1, 1, 2]),
+    "a repeated hit ends the scan": charts.steps(
+        [0, 1, 0, 1, 0, 1], [(1, 0, 0), (1, 1, 3)], [1, 3, 1, 2, 2, 3], {0: (0, 0, 0), 3: (1, 3, 3), 4: (0, 4, 4)}),
+    "a bar of two zones is numbered once": charts.steps([1, 0, 2, 1, 2, 1, 2], [(1, 0, 4), (1, 5, 5)], [0, 1, 0, 2, 1, 0, 0], {4: (1, 4, 4)}),
+    "numbered behind a mark among the superior's bars only": charts.steps([0, 2, 0, 2, 1], [(1, 1, 1)], [3, 0, 3, 0, 0]),
+    "numbered behind an anchor's mark": charts.steps([2, 4, 1, 3, 1, 4, 2, 3], [(1, 1, 1), (0, 2, 6)], [4, 4, 0, 1, 4, 1, 0, 4]),
+    "numbered behind the first order-0 mark": charts.steps(
+        [1, 0, 1, 0, 2, 0, 2, 0], [(1, 1, 5)], [0, 4, 0, 0, 0, 4, 0, 4], {4: (1, 4, 4)}, {}, 1.0),
+    "an order-0 mark of the other side does not count": charts.steps(
+        [2, 0, 1, 0, 1, 0, 1, 0], [(1, 1, 1), (0, 2, 2), (0, 3, 5)], [2, 1, 2, 1, 1, 1, 2, 2], {0: (1, 0, 0), 5: (0, 5, 5)}),
+    "nor a numbered row of an earlier superior": charts.steps(
+        [1, 0, 2, 0, 1, 0, 1, 0, 1, 0], [(1, 0, 0), (1, 1, 1), (1, 2, 4)], [2, 1, 0, 1, 1, 3, 0, 1, 3, 0], {1: (0, 1, 1), 6: (1, 6, 6)}),
+    "superiors ascending, each from 1": charts.steps(
+        [2, 0, 2, 1, 2, 0, 1, 0], [(1, 0, 0), (0, 1, 5)], [3, 3, 3, 3, 0, 0, 3, 3], {5: (0, 5, 5)}, {}, 0.0),
+    "an order-0 mark among the numbered takes no number": charts.steps(
+        [2, 1, 3, 2, 3, 2, 3, 2], [(1, 0, 2), (1, 5, 5)], [4, 0, 4, 4, 4, 4, 4, 4], {}, {}, -1.0),
+    "nor does it begin anew": charts.steps(
+        [1, 2, 0, 1, 0, 2, 0, 1, 0], [(1, 1, 3), (1, 6, 7)], [3, 3, 0, 3, 3, 3, 3, 0, 0], {0: (0, 0, 0), 3: (1, 3, 3), 7: (1, 7, 7)}, {}, -1.0),
+    "a superior's repeat uses up a number": charts.steps(
+        [1, 2, 1, 2, 0, 2, 0], [(1, 0, 0), (1, 1, 3), (1, 4, 4)], [0, 0, 0, 3, 3, 3, 0], {0: (0, 0, 0), 3: (1, 3, 3)}),
+    "anchors stop at the first opposite superior": charts.steps(
+        [1, 0, 1, 0, 3], [(1, 1, 1), (0, 2, 2), (0, 3, 3)], [0, 4, 4, 4, 0], {1: (0, 1, 1)}),
+    "superiors before anchors": charts.steps([0, 1, 0, 1, 0, 1, 0], [(1, 1, 3)], [2] * 7, {3: (1, 3, 3)}),
+    "a smaller order takes the earlier row's place": charts.steps(
+        [1, 0, 2, 1, 2, 1, 3, 2, 3, 2], [(1, 2, 4), (1, 5, 7)], [4] * 10, {3: (0, 3, 3), 4: (1, 4, 4), 6: (1, 6, 6)}, {}, -1.0),
+}
+
+def for_readings():
+    """as they are and upside down; every call is accepted"""
+    both = [(name + turned, d) for name, c in READINGS.items() for turned, d in (("", c), (", upside down", charts.mirrored(c)))]
+    return [made(name, calls_of(c) + bars_of(c), "0\n" * len(calls_of(c)) + f"count {len(calls_of(c))}") for name, c in both]
+
 def small_log():
     """a call of each kind, and bars; a zone and a third mark are left"""
     s = charts.turns([(0, 2), (1, 1), (2, 2), (3, 1)], False)
@@ -331,7 +374,7 @@ def small_log():
 
 def special():
     calls = for_strokes() + [t for letter in "GBU" for t in for_triples(letter)] + for_lengthen() + for_withdraw() + for_derive() + for_zones() + for_full()
-    return for_spelling() + for_length() + calls + for_bars()
+    return for_spelling() + for_length() + calls + for_bars() + for_readings()
 
 # ---- generated logs
 
@@ -641,4 +684,4 @@ def replay_corpus():
     """the logs of crates/replay_vectors: those made for a purpose, generated short ones, and long ones"""
     short = [log for log in (generated(7, i) for i in range(240)) if len(log) < 1000]
     more = [packed(f(random.Random(f"corpus {f.__name__} {i}"))) for f, n in ((long, 2), (full, 1)) for i in range(n)]
-    return list(dict.fromkeys([log for _, log, _ in special()] + short[:120] + more))
+    return list(dict.fromkeys([log for _, log, _ in special()] + short[:90] + more))
