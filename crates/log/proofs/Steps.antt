@@ -1,15 +1,17 @@
--- Reading a log call by call: the call at a place, the calls behind it, and how many a log has. Assumes nothing.
+-- Reading a log entry by entry: the entry at a place, the entries behind it, and how many a log has. Assumes nothing.
 use Prim.Native.Nat.{ℕ, zero, suc, _+_, _-_, _*_, _≤_, _<_}
 use native.Mathlib.Omega.{arith}
 use native.Mathlib.Nat.{zero-add}
 use native.Mathlib.Numerals.{add-one}
 use mathlib.Core.Path.{_≡_, refl, sym, ap, _∙_, subst}
 use mathlib.Core.Bool.{Bool, true, false, _&&_, cond}
+use mathlib.Core.Logic.{_⊎_, ⊎-elim, inl, inr}
 use mathlib.Core.List.{List, [], _∷_}
 use mathlib.Core.Option.{Option, none, some}
 use lib.ListN.{length, getD, take, drop, length-drop, drop-of-length-le}
 use lib.Seq.{drop-cons, drop-drop}
 use lib.Dec.{leb}
+use lib.Ieee.{Float}
 use borrow.Author.Tests.{le-leb, lt-leb, leb-true}
 use Rattle.rules.specs.Answer.{AnswerBy, refused, given}
 use Rattle.rules.specs.Lists.{andThen}
@@ -20,200 +22,267 @@ use Rattle.laws.proofs.FileSteps.{refused-given}
 use Rattle.laws.proofs.FileCode.{part}
 use Rattle.log.specs.declared.Logged.{Logged}
 use Rattle.log.specs.declared.Logged.the-variants as logged
-use Rattle.log.specs.Log.{Form, forms, formOf, whole, formAt, inFront, spelledFrom, spelled}
-use Rattle.log.specs.Calls.{callOf, badAt, widthBy, callBy, restOf, Calls, Told}
+use Rattle.log.specs.Log.{Entry, call, bar, Form, forms, formOf, counted, good, formAt, inFront, spelledFrom, spelled}
+use Rattle.log.specs.Entries.{entryOf, badAt, widthBy, entryBy, countedBy, restOf, EntryAt, Told}
 
--- ---- the form of a call
+-- ---- the form of an entry
 
 and-none : (b : Bool) → (b && false) ≡ false
 and-none true = refl
 and-none false = refl
 
-module _ (at : ℕ) (fields : List ℕ) (f : Form) where
-  whole-yes : f .width ≤ length fields → at + suc (f .width) ≤ 65536 → whole at fields f ≡ true
-  unfolding whole
-  whole-yes h l = rw (le-leb (f .width) (length fields) h, le-leb (at + suc (f .width)) 65536 l)
+module _ (at bars : ℕ) (fields : List ℕ) (f : Form) where
+  abbrev long : Bool
+  long = leb (f .width) (length fields)
 
-  whole-cut : length fields < f .width → whole at fields f ≡ false
-  unfolding whole
-  whole-cut h = rw (lt-leb (f .width) (length fields) h)
+  abbrev early : Bool
+  early = leb (at + suc (f .width)) 65536
 
-  pub whole-late : 65536 < at + suc (f .width) → whole at fields f ≡ false
-  unfolding whole
-  whole-late l = rw (lt-leb (at + suc (f .width)) 65536 l) (and-none (leb (f .width) (length fields)))
+  abbrev few : Bool
+  few = leb (counted bars (f .entry fields)) 2048
 
-  whole-says : whole at fields f ≡ true → (f .width ≤ length fields) × (at + suc (f .width) ≤ 65536)
-  unfolding whole
-  whole-says e =
-      let long = leb (f .width) (length fields) in
-      let early = leb (at + suc (f .width)) 65536 in
-      (leb-true (f .width) (length fields) (and-l long early e), leb-true (at + suc (f .width)) 65536 (and-r long early e))
+  pub good-yes : f .width ≤ length fields → at + suc (f .width) ≤ 65536 → counted bars (f .entry fields) ≤ 2048 → good at bars fields f ≡ true
+  unfolding good
+  good-yes h l m = rw (le-leb (f .width) (length fields) h, le-leb (at + suc (f .width)) 65536 l, le-leb (counted bars (f .entry fields)) 2048 m)
 
-module _ (at letter : ℕ) (fields : List ℕ) where
-  pub form-by : (o : Option Form) → formOf letter ≡ o → formAt at letter fields ≡ andThen o (λ (f : Form). cond (whole at fields f) (some f) none)
+  good-cut : length fields < f .width → good at bars fields f ≡ false
+  unfolding good
+  good-cut h = rw (lt-leb (f .width) (length fields) h)
+
+  pub good-late : 65536 < at + suc (f .width) → good at bars fields f ≡ false
+  unfolding good
+  good-late l = rw (lt-leb (at + suc (f .width)) 65536 l, and-none long)
+
+  pub good-many : 2048 < counted bars (f .entry fields) → good at bars fields f ≡ false
+  unfolding good
+  good-many l = rw (lt-leb (counted bars (f .entry fields)) 2048 l) (and-none (long && early))
+
+  good-says : good at bars fields f ≡ true → (f .width ≤ length fields) × (at + suc (f .width) ≤ 65536) × (counted bars (f .entry fields) ≤ 2048)
+  unfolding good
+  good-says e =
+      let both = and-l (long && early) few e in (
+        leb-true (f .width) (length fields) (and-l long early both),
+        leb-true (at + suc (f .width)) 65536 (and-r long early both),
+        leb-true (counted bars (f .entry fields)) 2048 (and-r (long && early) few e),
+      )
+
+module _ (at bars letter : ℕ) (fields : List ℕ) where
+  pub form-by : (o : Option Form) → formOf letter ≡ o → formAt at bars letter fields ≡ andThen o (λ (f : Form). cond (good at bars fields f) (some f) none)
   unfolding formAt
   form-by o e = rw e
 
--- a call that is not bad
-pub record Good (at letter : ℕ) (fields : List ℕ) (f : Form) : Type 0 where
+-- an entry that is not bad
+pub record Good (at bars letter : ℕ) (fields : List ℕ) (f : Form) : Type 0 where
   pub known : formOf letter ≡ some f
   pub long : f .width ≤ length fields
   pub early : at + suc (f .width) ≤ 65536
+  pub few : counted bars (f .entry fields) ≤ 2048
 
-pub form-good : (at letter : ℕ) (fields : List ℕ) (f : Form) → formAt at letter fields ≡ some f → Good at letter fields f
-form-good at letter fields f e = go (formOf letter) refl
+pub form-good : (at bars letter : ℕ) (fields : List ℕ) (f : Form) → formAt at bars letter fields ≡ some f → Good at bars letter fields f
+form-good at bars letter fields f e = go (formOf letter) refl
   where
-    pick : (g : Form) → formOf letter ≡ some g → (b : Bool) → whole at fields g ≡ b → cond b (some g) none ≡ some f → Good at letter fields f
+    pick : (g : Form) → formOf letter ≡ some g → (b : Bool) → good at bars fields g ≡ b → cond b (some g) none ≡ some f → Good at bars letter fields f
     pick g q true w s =
         let same : g ≡ f = cc in
-        let says = whole-says at fields f (ap (whole at fields) (sym same) ∙ w) in
-        record { known = q ∙ ap some same; long = says .0; early = says .1 }
+        let says = good-says at bars fields f (ap (good at bars fields) (sym same) ∙ w) in
+        record { known = q ∙ ap some same; long = says .0; early = says .1; few = says .2 }
     pick g q false w s = absurd (none-some s)
 
-    go : (o : Option Form) → formOf letter ≡ o → Good at letter fields f
-    go none q = absurd (none-some (sym (form-by at letter fields none q) ∙ e))
-    go (some g) q = pick g q (whole at fields g) refl (sym (form-by at letter fields (some g) q) ∙ e)
+    go : (o : Option Form) → formOf letter ≡ o → Good at bars letter fields f
+    go none q = absurd (none-some (sym (form-by at bars letter fields none q) ∙ e))
+    go (some g) q = pick g q (good at bars fields g) refl (sym (form-by at bars letter fields (some g) q) ∙ e)
+
+-- ---- how many bars there are with an entry
+
+pub with-bar : (bars : ℕ) (l : Logged) (high low : Float) → l ≡ logged.Bar high low → bars + 1 ≡ countedBy bars (entryOf l)
+unfolding countedBy counted
+with-bar bars l high low e = rw e (add-one bars)
+
+-- what is no bar is a call, or bad
+pub no-bar :
+    (l : Logged) → ((high low : Float) → l ≡ logged.Bar high low → ⊥) → ((k : Call) × (entryOf l ≡ some (call k))) ⊎ (entryOf l ≡ none)
+no-bar (logged.Stroke s) h = inl (addStroke s, refl)
+no-bar (logged.Segment t) h = inl (addSegment t, refl)
+no-bar (logged.Big t) h = inl (addBig t, refl)
+no-bar (logged.Superior t) h = inl (addSuperior t, refl)
+no-bar (logged.Lengthen n) h = inl (lengthen n, refl)
+no-bar (logged.Withdraw n) h = inl (withdraw n, refl)
+no-bar (logged.Bigs n) h = inl (deriveBigs n, refl)
+no-bar (logged.Superiors n) h = inl (deriveSuperiors n, refl)
+no-bar (logged.Bar high low) h = absurd (h high low refl)
+no-bar logged.Bad h = inr refl
+
+pub with-call : (bars : ℕ) (l : Logged) → ((high low : Float) → l ≡ logged.Bar high low → ⊥) → bars ≡ countedBy bars (entryOf l)
+unfolding countedBy counted
+with-call bars l h = ⊎-elim (λ k. rw (k .1)) (λ e. rw e) (no-bar l h)
 
 -- ---- the reading from a place on
 
--- the fields of a call are passed over
-pass-over : (at k : ℕ) (bytes : List ℕ) → spelledFrom at k bytes ≡ spelledFrom (k + at) 0 (drop k bytes)
+-- the fields of an entry are passed over
+pub pass-over : (at bars k : ℕ) (bytes : List ℕ) → spelledFrom at bars k bytes ≡ spelledFrom (k + at) bars 0 (drop k bytes)
 unfolding spelledFrom
-pass-over at zero bytes = rw (zero-add at)
-pass-over at (suc k) [] = refl
-pass-over at (suc k) (b ∷ bytes) = pass-over (suc at) k bytes ∙ ap (λ (i : ℕ). spelledFrom i 0 (drop k bytes)) (omega arith)
+pass-over at bars zero bytes = rw (zero-add at)
+pass-over at bars (suc k) [] = refl
+pass-over at bars (suc k) (b ∷ bytes) = pass-over (suc at) bars k bytes ∙ ap (λ (i : ℕ). spelledFrom i bars 0 (drop k bytes)) (omega arith)
 
-module _ (log : List ℕ) (at : ℕ) (more : at < length log) where
+module _ (log : List ℕ) (at bars : ℕ) (more : at < length log) where
   abbrev letter : ℕ
   letter = getD log at 0
 
   abbrev fields : List ℕ
   fields = drop (suc at) log
 
-  rest-bad : formAt at letter fields ≡ none → restOf log at ≡ refused at
+  rest-bad : formAt at bars letter fields ≡ none → restOf log at bars ≡ refused at
   unfolding spelledFrom
   rest-bad e = rw (drop-cons log at 0 more, spelledFrom, e)
 
-  rest-form : (f : Form) → formAt at letter fields ≡ some f → restOf log at ≡ inFront (f .call fields) (restOf log (at + suc (f .width)))
+  rest-form :
+      (f : Form) → formAt at bars letter fields ≡ some f
+      → restOf log at bars ≡ inFront (f .entry fields) (restOf log (at + suc (f .width)) (counted bars (f .entry fields)))
   unfolding spelledFrom
   rest-form f e =
       let next : f .width + suc at ≡ at + suc (f .width) = omega arith in
       let place : suc at + f .width ≡ at + suc (f .width) = omega arith in
       rw (drop-cons log at 0 more, spelledFrom, e)
-      (ap (inFront (f .call fields)) (pass-over (suc at) (f .width) fields ∙ rw (drop-drop (f .width) (suc at) log, next, place)))
+      (ap (inFront (f .entry fields))
+      (pass-over (suc at) (counted bars (f .entry fields)) (f .width) fields ∙ rw (drop-drop (f .width) (suc at) log, next, place)))
 
   -- what the code's tests tell, w being the width that it has for the letter
   module _ (w : ℕ) (called : w ≡ widthBy (formOf letter)) where
-    bad-by : (o : Option Call) (next : ℕ) → o ≡ none → ((f : Form) → w ≡ f .width → whole at fields f ≡ false) → Told log at o next
+    bad-by :
+        (o : Option Entry) (next after : ℕ) → o ≡ none
+        → ((f : Form) → formOf letter ≡ some f → w ≡ f .width → good at bars fields f ≡ false) → Told log at bars o next after
     unfolding widthBy
-    bad-by o next n h = subst (λ (k : Option Call). Told log at k next) (sym n) (rest-bad (go (formOf letter) refl called))
+    bad-by o next after n h = subst (λ (k : Option Entry). Told log at bars k next after) (sym n) (rest-bad (go (formOf letter) refl called))
       where
-        go : (k : Option Form) → formOf letter ≡ k → w ≡ widthBy k → formAt at letter fields ≡ none
-        go none e q = form-by at letter fields none e
-        go (some f) e q = form-by at letter fields (some f) e ∙ rw (h f q)
+        go : (k : Option Form) → formOf letter ≡ k → w ≡ widthBy k → formAt at bars letter fields ≡ none
+        go none e q = form-by at bars letter fields none e
+        go (some f) e q = form-by at bars letter fields (some f) e ∙ rw (h f e q)
 
-    pub told-cut : (o : Option Call) (next : ℕ) → o ≡ none → length log - (at + 1) < w → Told log at o next
-    told-cut o next n h = bad-by o next n (λ f q. whole-cut at fields f (omega (arith, length-drop (suc at) log)))
+    pub told-cut : (o : Option Entry) (next after : ℕ) → o ≡ none → length log - (at + 1) < w → Told log at bars o next after
+    told-cut o next after n h = bad-by o next after n (λ f e q. good-cut at bars fields f (omega (arith, length-drop (suc at) log)))
 
-    pub told-late : (o : Option Call) (next : ℕ) → o ≡ none → 65536 < at + 1 + w → Told log at o next
-    told-late o next n l = bad-by o next n (λ f q. whole-late at fields f (omega arith))
+    pub told-late : (o : Option Entry) (next after : ℕ) → o ≡ none → 65536 < at + 1 + w → Told log at bars o next after
+    told-late o next after n l = bad-by o next after n (λ f e q. good-late at bars fields f (omega arith))
 
-    pub told-call :
-        (o : Option Call) → o ≡ callBy (formOf letter) (take (length log - (at + 1)) (drop (at + 1) log)) → w ≤ length log - (at + 1)
-        → at + 1 + w ≤ 65536 → Told log at o (at + 1 + w)
-    unfolding widthBy callBy
-    told-call o c h l = go (formOf letter) refl called (c ∙ ap (callBy (formOf letter)) (part log (at + 1) ∙ rw (add-one at)))
+    -- the entry that the code reads there, and the bars with it
+    module _
+        (o : Option Entry)
+        (c : o ≡ entryBy (formOf letter) (take (length log - (at + 1)) (drop (at + 1) log)))
+        (after : ℕ)
+        (a : after ≡ countedBy bars o)
       where
-        go : (k : Option Form) → formOf letter ≡ k → w ≡ widthBy k → o ≡ callBy k fields → Told log at o (at + 1 + w)
-        go none e q r = subst (λ (k : Option Call). Told log at k (at + 1 + w)) (sym r) (rest-bad (form-by at letter fields none e))
-        go (some f) e q r =
-            let long : f .width ≤ length fields = omega (arith, length-drop (suc at) log) in
-            let next : at + 1 + w ≡ at + suc (f .width) = omega arith in
-            let good : formAt at letter fields ≡ some f = form-by at letter fields (some f) e ∙ rw (whole-yes at fields f long (omega arith)) in
-            subst (λ (k : Option Call). Told log at k (at + 1 + w)) (sym r)
-            (record {
-              further = omega arith;
-              within = omega (arith, length-drop (suc at) log);
-              early = l;
-              rest = rw next (rest-form f good);
-            })
+        read : o ≡ entryBy (formOf letter) fields
+        read = c ∙ ap (entryBy (formOf letter)) (part log (at + 1) ∙ rw (add-one at))
 
--- ---- what the reading is by the calls
+        pub told-many : (b : Option Entry) (next rest : ℕ) → b ≡ none → 2048 < after → Told log at bars b next rest
+        unfolding entryBy countedBy
+        told-many b next rest n l =
+            bad-by b next rest n
+            (λ f e q.
+            let is : o ≡ some (f .entry fields) = read ∙ ap (λ (k : Option Form). entryBy k fields) e in
+            let sum : after ≡ counted bars (f .entry fields) = a ∙ ap (countedBy bars) is in
+            good-many at bars fields f (omega arith))
+
+        pub told-entry : w ≤ length log - (at + 1) → at + 1 + w ≤ 65536 → after ≤ 2048 → Told log at bars o (at + 1 + w) after
+        unfolding widthBy entryBy countedBy
+        told-entry h l m = go (formOf letter) refl called read
+          where
+            go : (k : Option Form) → formOf letter ≡ k → w ≡ widthBy k → o ≡ entryBy k fields → Told log at bars o (at + 1 + w) after
+            go none e q r = subst (λ (k : Option Entry). Told log at bars k (at + 1 + w) after) (sym r) (rest-bad (form-by at bars letter fields none e))
+            go (some f) e q r =
+                let long : f .width ≤ length fields = omega (arith, length-drop (suc at) log) in
+                let next : at + 1 + w ≡ at + suc (f .width) = omega arith in
+                let sum : after ≡ counted bars (f .entry fields) = a ∙ ap (countedBy bars) r in
+                let good : formAt at bars letter fields ≡ some f =
+                form-by at bars letter fields (some f) e ∙ rw (good-yes at bars fields f long (omega arith) (omega arith)) in
+                subst (λ (k : Option Entry). Told log at bars k (at + 1 + w) after) (sym r)
+                (record {
+                  further = omega arith;
+                  within = omega (arith, length-drop (suc at) log);
+                  early = l;
+                  count = sum;
+                  few = m;
+                  rest = rw (next, sum) (rest-form f good);
+                })
+
+-- ---- what the reading is by the entries
 
 -- the end of a log
-pub at-end : (log : List ℕ) (at : ℕ) → length log ≤ at → restOf log at ≡ given []
+pub at-end : (log : List ℕ) (at bars : ℕ) → length log ≤ at → restOf log at bars ≡ given []
 unfolding spelledFrom
-at-end log at h = rw (drop-of-length-le log {i = at} h)
+at-end log at bars h = rw (drop-of-length-le log {i = at} h)
 
-front-given : (k : Call) (a : AnswerBy ℕ (List Call)) (ks : List Call) → inFront k a ≡ given ks → (rest : List Call) × (a ≡ given rest) × (ks ≡ k ∷ rest)
+front-given : (k : Entry) (a : AnswerBy ℕ (List Entry)) (ks : List Entry) → inFront k a ≡ given ks → (rest : List Entry) × (a ≡ given rest) × (ks ≡ k ∷ rest)
 unfolding inFront
 front-given k (refused p) ks e = absurd (refused-given e)
 front-given k (given rest) ks e = (rest, refl, cc)
 
--- where no call is bad: the next one, which is o, and those behind it
-pub record Stepped (log : List ℕ) (at : ℕ) (ks : List Call) (o : Option Call) (next : ℕ) : Type 0 where
-  pub call : Call
-  pub calls : List Call
-  pub is : o ≡ some call
-  pub all : ks ≡ call ∷ calls
-  pub rest : restOf log next ≡ given calls
-  pub further : at < next
-  pub within : next ≤ length log
+-- where no entry is bad: the next one, which is o, and those behind it
+pub record Stepped (log : List ℕ) (at bars : ℕ) (es : List Entry) (o : Option Entry) (next after : ℕ) : Type 0 where
+  pub entry : Entry
+  pub entries : List Entry
+  pub is : o ≡ some entry
+  pub all : es ≡ entry ∷ entries
+  pub here : EntryAt log at bars entry next after
+  pub rest : restOf log next after ≡ given entries
 
-module _ (log : List ℕ) (at : ℕ) (ks : List Call) (e : restOf log at ≡ given ks) where
-  pub step : (o : Option Call) (next : ℕ) → Told log at o next → Stepped log at ks o next
-  step none next t = absurd (refused-given (sym t ∙ e))
-  step (some k) next t =
-      let s = front-given k (restOf log next) ks (sym (t .rest) ∙ e) in
-      record { call = k; calls = s .0; is = refl; all = s .2; rest = s .1; further = t .further; within = t .within }
+module _ (log : List ℕ) (at bars : ℕ) (es : List Entry) (e : restOf log at bars ≡ given es) where
+  pub step : (o : Option Entry) (next after : ℕ) → Told log at bars o next after → Stepped log at bars es o next after
+  step none next after t = absurd (refused-given (sym t ∙ e))
+  step (some k) next after t =
+      let s = front-given k (restOf log next after) es (sym (t .rest) ∙ e) in
+      record { entry = k; entries = s .0; is = refl; all = s .2; here = t; rest = s .1 }
 
-  pub never-bad : (next : ℕ) → Told log at none next → ⊥
-  never-bad next t = refused-given (sym t ∙ e)
+  pub ends : length log ≤ at → es ≡ []
+  ends h = let z : given es ≡ given [] = sym e ∙ at-end log at bars h in cc
 
-  pub ends : length log ≤ at → ks ≡ []
-  ends h = let z : given ks ≡ given [] = sym e ∙ at-end log at h in cc
+-- an entry that the code finds good
+pub good-entry :
+    (log : List ℕ) (at bars : ℕ) (l : Logged) (next after : ℕ) → (l ≡ logged.Bad → ⊥) → Told log at bars (entryOf l) next after
+    → (e : Entry) × EntryAt log at bars e next after
+good-entry log at bars (logged.Stroke s) next after h t = (call (addStroke s), t)
+good-entry log at bars (logged.Segment s) next after h t = (call (addSegment s), t)
+good-entry log at bars (logged.Big s) next after h t = (call (addBig s), t)
+good-entry log at bars (logged.Superior s) next after h t = (call (addSuperior s), t)
+good-entry log at bars (logged.Lengthen n) next after h t = (call (lengthen n), t)
+good-entry log at bars (logged.Withdraw n) next after h t = (call (withdraw n), t)
+good-entry log at bars (logged.Bigs n) next after h t = (call (deriveBigs n), t)
+good-entry log at bars (logged.Superiors n) next after h t = (call (deriveSuperiors n), t)
+good-entry log at bars (logged.Bar high low) next after h t = (bar high low, t)
+good-entry log at bars logged.Bad next after h t = absurd (h refl)
 
--- a call that the code finds good
-pub good-call : (log : List ℕ) (at : ℕ) (l : Logged) (next : ℕ) → (l ≡ logged.Bad → ⊥) → Told log at (callOf l) next → (k : Call) × Calls log at k next
-good-call log at (logged.Stroke s) next h t = (addStroke s, t)
-good-call log at (logged.Segment s) next h t = (addSegment s, t)
-good-call log at (logged.Big s) next h t = (addBig s, t)
-good-call log at (logged.Superior s) next h t = (addSuperior s, t)
-good-call log at (logged.Lengthen n) next h t = (lengthen n, t)
-good-call log at (logged.Withdraw n) next h t = (withdraw n, t)
-good-call log at (logged.Bigs n) next h t = (deriveBigs n, t)
-good-call log at (logged.Superiors n) next h t = (deriveSuperiors n, t)
-good-call log at logged.Bad next h t = absurd (h refl)
-
--- the place of the first bad call, by the calls
-pub bad-here : (log : List ℕ) (at next : ℕ) → Told log at none next → some at ≡ badAt (restOf log at)
+-- the place of the first bad entry, by the entries
+pub bad-here : (log : List ℕ) (at bars next after : ℕ) → Told log at bars none next after → some at ≡ badAt (restOf log at bars)
 unfolding badAt
-bad-here log at next t = rw t
+bad-here log at bars next after t = rw t
 
-front-bad : (k : Call) (a : AnswerBy ℕ (List Call)) → badAt (inFront k a) ≡ badAt a
+pub front-bad : (k : Entry) (a : AnswerBy ℕ (List Entry)) → badAt (inFront k a) ≡ badAt a
 unfolding badAt inFront
 front-bad k (refused p) = refl
 front-bad k (given ks) = refl
 
-pub bad-later : (log : List ℕ) (at : ℕ) (k : Call) (next : ℕ) → Calls log at k next → badAt (restOf log next) ≡ badAt (restOf log at)
-bad-later log at k next t = sym (ap badAt (t .rest) ∙ front-bad k (restOf log next))
+pub bad-later :
+    (log : List ℕ) (at bars : ℕ) (e : Entry) (next after : ℕ) → EntryAt log at bars e next after
+    → badAt (restOf log next after) ≡ badAt (restOf log at bars)
+bad-later log at bars e next after t = sym (ap badAt (t .rest) ∙ front-bad e (restOf log next after))
 
-pub bad-nowhere : (log : List ℕ) (at : ℕ) → length log ≤ at → none ≡ badAt (restOf log at)
+pub bad-nowhere : (log : List ℕ) (at bars : ℕ) → length log ≤ at → none ≡ badAt (restOf log at bars)
 unfolding badAt
-bad-nowhere log at h = rw (at-end log at h)
+bad-nowhere log at bars h = rw (at-end log at bars h)
 
 -- what that place says of the whole
-pub bad-says : (a : AnswerBy ℕ (List Call)) (p : ℕ) → some p ≡ badAt a → a ≡ refused p
+pub bad-says : (a : AnswerBy ℕ (List Entry)) (p : ℕ) → some p ≡ badAt a → a ≡ refused p
 unfolding badAt
 bad-says (refused q) p e = let same : q ≡ p = cc in rw same
 bad-says (given ks) p e = absurd (none-some (sym e))
 
-pub nowhere-says : (a : AnswerBy ℕ (List Call)) → none ≡ badAt a → (ks : List Call) × (a ≡ given ks)
+pub nowhere-says : (a : AnswerBy ℕ (List Entry)) → none ≡ badAt a → (es : List Entry) × (a ≡ given es)
 unfolding badAt
 nowhere-says (refused q) e = absurd (none-some e)
-nowhere-says (given ks) e = (ks, refl)
+nowhere-says (given es) e = (es, refl)
 
--- ---- how many calls there are
+-- ---- how many entries there are
 
 some-byte : (n : ℕ) → 1 ≤ suc n
 some-byte n = omega arith
@@ -224,7 +293,8 @@ all-wide =
     cons (some-byte 20)
     (cons (some-byte 4)
     (cons (some-byte 4)
-    (cons (some-byte 4) (cons (some-byte 1) (cons (some-byte 0) (cons (some-byte 0) (cons (some-byte 0) nil)))))))
+    (cons (some-byte 4)
+    (cons (some-byte 1) (cons (some-byte 0) (cons (some-byte 0) (cons (some-byte 0) (cons (some-byte 15) nil))))))))
 
 form-wide : (letter : ℕ) (f : Form) → formOf letter ≡ some f → 1 ≤ f .width
 unfolding formOf
@@ -232,34 +302,39 @@ form-wide letter f e = all-find _ f all-wide e
 
 -- each has two bytes or more, and the last ends within the first 65,536
 few-from :
-    (at skip : ℕ) (bytes : List ℕ) (ks : List Call) → at + skip ≤ 65536 → skip ≤ length bytes → spelledFrom at skip bytes ≡ given ks
-    → (at + skip + 2 * length ks ≤ 65536) × (at + length bytes ≤ 65536)
+    (at bars skip : ℕ) (bytes : List ℕ) (es : List Entry) → at + skip ≤ 65536 → skip ≤ length bytes → spelledFrom at bars skip bytes ≡ given es
+    → (at + skip + 2 * length es ≤ 65536) × (at + length bytes ≤ 65536)
 unfolding spelledFrom
-few-from at skip [] ks h l e = let z : ks ≡ [] = cc in rw z (omega arith, omega arith)
-few-from at (suc skip) (b ∷ bytes) ks h l e = let r = few-from (suc at) skip bytes ks (omega arith) (omega arith) e in (omega arith, omega arith)
-few-from at zero (b ∷ bytes) ks h l e = go (formAt at b bytes) refl e (λ f js. few-from (suc at) (f .width) bytes js)
+few-from at bars skip [] es h l e = let z : es ≡ [] = cc in rw z (omega arith, omega arith)
+few-from at bars (suc skip) (b ∷ bytes) es h l e = let r = few-from (suc at) bars skip bytes es (omega arith) (omega arith) e in (omega arith, omega arith)
+few-from at bars zero (b ∷ bytes) es h l e =
+    go (formAt at bars b bytes) refl e (λ f js. few-from (suc at) (counted bars (f .entry bytes)) (f .width) bytes js)
   where
     go :
-        (o : Option Form) → formAt at b bytes ≡ o
-        → _≡_ {A = AnswerBy ℕ (List Call)}
-        (elim o [ none ↦ refused at | some f ↦ inFront (f .call bytes) (spelledFrom (suc at) (f .width) bytes) ])
-        (given ks)
-        → ((f : Form) (js : List Call) → suc at + f .width ≤ 65536 → f .width ≤ length bytes → spelledFrom (suc at) (f .width) bytes ≡ given js
+        (o : Option Form) → formAt at bars b bytes ≡ o
+        → _≡_ {A = AnswerBy ℕ (List Entry)}
+        (elim o [
+          | none ↦ refused at
+          | some f ↦ inFront (f .entry bytes) (spelledFrom (suc at) (counted bars (f .entry bytes)) (f .width) bytes)
+        ])
+        (given es)
+        → ((f : Form) (js : List Entry) → suc at + f .width ≤ 65536 → f .width ≤ length bytes
+        → spelledFrom (suc at) (counted bars (f .entry bytes)) (f .width) bytes ≡ given js
         → (suc at + f .width + 2 * length js ≤ 65536) × (suc at + length bytes ≤ 65536))
-        → (at + 0 + 2 * length ks ≤ 65536) × (at + suc (length bytes) ≤ 65536)
+        → (at + 0 + 2 * length es ≤ 65536) × (at + suc (length bytes) ≤ 65536)
     go none q s r = absurd (refused-given s)
     go (some f) q s r =
-        let good = form-good at b bytes f q in
+        let good = form-good at bars b bytes f q in
         let wide = form-wide b f (good .known) in
-        let front = front-given (f .call bytes) (spelledFrom (suc at) (f .width) bytes) ks s in
+        let front = front-given (f .entry bytes) (spelledFrom (suc at) (counted bars (f .entry bytes)) (f .width) bytes) es s in
         let rest = r f (front .0) (omega arith) (good .long) (front .1) in
         rw (front .2) (omega arith, omega arith)
 
--- so a log without a bad call has at most 32,768 calls, and at most 65,536 bytes
-pub few : (log : List ℕ) (ks : List Call) → spelled log ≡ given ks → 2 * length ks ≤ 65536
+-- so a log without a bad entry has at most 32,768 entries, and at most 65,536 bytes
+pub few-entries : (log : List ℕ) (es : List Entry) → spelled log ≡ given es → 2 * length es ≤ 65536
 unfolding spelled
-few log ks e = let r = few-from 0 0 log ks (omega arith) (omega arith) e in omega arith
+few-entries log es e = let r = few-from 0 0 0 log es (omega arith) (omega arith) e in omega arith
 
-pub short : (log : List ℕ) (ks : List Call) → spelled log ≡ given ks → length log ≤ 65536
+pub short : (log : List ℕ) (es : List Entry) → spelled log ≡ given es → length log ≤ 65536
 unfolding spelled
-short log ks e = let r = few-from 0 0 log ks (omega arith) (omega arith) e in omega arith
+short log es e = let r = few-from 0 0 0 log es (omega arith) (omega arith) e in omega arith

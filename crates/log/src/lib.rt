@@ -1,16 +1,16 @@
-// Reading a log of calls on a live chart: each call, and whether every call of a log is good.
+// Reading a log of calls on a live chart and of bars: each entry, and whether every entry of a log is good.
 use chart::Stroke;
 use chart::Triple;
 ghost use mathlib.Core.Path.{_≡_};
-ghost use mathlib.Core.Option.{none};
+ghost use mathlib.Core.Option.{none, some};
 ghost use Prim.Native.Nat.{_+_, _*_, _≤_, _<_};
 ghost use lib.ListN.{length};
 ghost use lib.Ieee.{binary64, ofBits};
-ghost use Rattle.rules.specs.File.{strokeIn, tripleIn};
-ghost use Rattle.log.specs.Log.{formOf, spelled};
-ghost use Rattle.log.specs.Calls.{callOf, placeOf, badAt, widthBy, callBy, Told};
+ghost use Rattle.rules.specs.File.{price, strokeIn, tripleIn};
+ghost use Rattle.log.specs.Log.{bar, formOf, spelled};
+ghost use Rattle.log.specs.Entries.{entryOf, placeOf, badAt, widthBy, entryBy, countedBy, Told};
 
-// A call that a log spells.
+// An entry that a log spells: a call, or a bar with its high, then its low.
 pub enum Logged {
     Stroke(Stroke),
     Segment(Triple),
@@ -20,16 +20,18 @@ pub enum Logged {
     Withdraw(u8),
     Bigs(u8),
     Superiors(u8),
+    Bar(f64, f64),
     Bad,
 }
 
-// A call and the place behind it.
+// An entry, the place behind it, and how many bars there are up to there.
 pub struct Next {
-    pub call: Logged,
+    pub entry: Logged,
     pub next: usize,
+    pub bars: usize,
 }
 
-// Where a log has its first bad call.
+// Where a log has its first bad entry.
 pub enum Place {
     At(usize),
     Nowhere,
@@ -81,6 +83,16 @@ fn stroke_in(s: &[u8]) -> Stroke
     }
 }
 
+// The bar in the fields, whatever its prices are.
+fn bar_in(s: &[u8]) -> Logged
+    requires { ⌜ 16 ≤ length (now s) ⌝ }
+    ensures { λ r. ⌜ entryOf r ≡ some (bar (price 0 (now (s .entry))) (price 8 (now (s .entry)))) ⌝ }
+{
+    let high = price::number_of(s);
+    let low = price::number_of(&s[8..]);
+    Logged::Bar(any_price(high), any_price(low))
+}
+
 // How many bytes of fields a letter has behind it, 0 where it is none.
 fn width_of(letter: u8) -> usize
     ensures { λ r. ⌜ r ≡ widthBy (formOf letter) ⌝ }
@@ -92,14 +104,15 @@ fn width_of(letter: u8) -> usize
         b'W' => 1,
         b'D' => 1,
         b'E' => 1,
+        b'Q' => 16,
         _ => 0,
     }
 }
 
-// The call of a letter with these fields.
-fn call_in(letter: u8, s: &[u8]) -> Logged
+// The entry of a letter with these fields.
+fn entry_in(letter: u8, s: &[u8]) -> Logged
     requires { ⌜ widthBy (formOf letter) ≤ length (now s) ⌝ }
-    ensures { λ r. ⌜ callOf r ≡ callBy (formOf letter) (now (s .entry)) ⌝ }
+    ensures { λ r. ⌜ entryOf r ≡ entryBy (formOf letter) (now (s .entry)) ⌝ }
 {
     match letter {
         b'S' => Logged::Stroke(stroke_in(s)),
@@ -110,53 +123,74 @@ fn call_in(letter: u8, s: &[u8]) -> Logged
         b'W' => Logged::Withdraw(s[0]),
         b'D' => Logged::Bigs(s[0]),
         b'E' => Logged::Superiors(s[0]),
+        b'Q' => bar_in(s),
         _ => Logged::Bad,
     }
 }
 
-// A bad call has no place behind it.
-fn bad(at: usize) -> Next
-    ensures { λ r. ⌜ callOf (r .call) ≡ none ⌝ }
+// How many bars there are up to an entry and with it.
+fn counted(bars: usize, entry: Logged) -> usize
+    requires { ⌜ bars ≤ 2048 ⌝ }
+    ensures { λ r. ⌜ r ≡ countedBy bars (entryOf entry) ⌝ }
+{
+    if let Logged::Bar(_, _) = entry {
+        return bars + 1;
+    }
+    bars
+}
+
+// A bad entry has no place behind it.
+fn bad(at: usize, bars: usize) -> Next
+    ensures { λ r. ⌜ entryOf (r .entry) ≡ none ⌝ }
 {
     Next {
-        call: Logged::Bad,
+        entry: Logged::Bad,
         next: at,
+        bars: bars,
     }
 }
 
-// The call whose letter stands at a place. Another letter has no fields, and its call is bad.
-pub fn next_call(log: &[u8], at: usize) -> Next
-    requires { ⌜ at < length (now log) ⌝ }
-    ensures { λ r. ⌜ Told (now (log .entry)) at (callOf (r .call)) (r .next) ⌝ }
+// The entry whose letter stands at a place, behind so many bars. Another letter has no fields, and its entry is bad.
+pub fn next_entry(log: &[u8], at: usize, bars: usize) -> Next
+    requires { ⌜ (at < length (now log)) × (bars ≤ 2048) ⌝ }
+    ensures { λ r. ⌜ Told (now (log .entry)) at bars (entryOf (r .entry)) (r .next) (r .bars) ⌝ }
 {
     let letter = log[at];
     let width = width_of(letter);
     let fields = at + 1;
     if log.len() - fields < width {
-        return bad(at);
+        return bad(at, bars);
     }
     let next = fields + width;
     if 65536 < next {
-        return bad(at);
+        return bad(at, bars);
+    }
+    let entry = entry_in(letter, &log[fields..]);
+    let with_it = counted(bars, entry);
+    if 2048 < with_it {
+        return bad(at, bars);
     }
     Next {
-        call: call_in(letter, &log[fields..]),
+        entry: entry,
         next: next,
+        bars: with_it,
     }
 }
 
-// The place of the first bad call of a log.
+// The place of the first bad entry of a log.
 pub fn bad_place(log: &[u8]) -> Place
     ensures { λ r. ⌜ placeOf r ≡ badAt (spelled (now (log .entry))) ⌝ }
 {
     let mut at = 0usize;
+    let mut bars = 0usize;
     while at < log.len() {
-        let n = next_call(log, at);
-        let call = n.call;
-        if let Logged::Bad = call {
+        let n = next_entry(log, at, bars);
+        let entry = n.entry;
+        if let Logged::Bad = entry {
             return Place::At(at);
         }
         at = n.next;
+        bars = n.bars;
     }
     Place::Nowhere
 }

@@ -1,7 +1,7 @@
 -- `playback::replay` meets its contract. Assumes nothing.
 use mathlib.Core.Path.{sym, ap, _∙_}
 use borrow.Author.Needs.{needs}
-use Rattle.log.specs.Calls.{placeOf}
+use Rattle.log.specs.Entries.{placeOf}
 use Rattle.playback.proofs.Turns.{stopped}
 use Rattle.playback.proofs.replay.Statement.{statement}
 use Rattle.playback.proofs.replay.Tie as tie
@@ -18,7 +18,7 @@ new-requires c κs = search needs
 returns : tie.Need-returns
 returns c =
     let place = c .before .before in
-    stopped _ _ _ _ (sym (ap placeOf (place .place .given .1)) ∙ place .before .before .bad-place .ensures) (c .new .ensures)
+    stopped _ _ _ _ _ _ (sym (ap placeOf (place .place .given .1)) ∙ place .before .before .bad-place .ensures) (c .new .ensures)
 
 enum-told : tie.Need-enum-told
 enum-told c = search needs

@@ -1,4 +1,4 @@
--- `log::call_in` meets its contract. Assumes nothing.
+-- `log::entry_in` meets its contract. Assumes nothing.
 use native.Mathlib.Omega.{arith}
 use Prim.Native.Nat.{ℕ}
 use mathlib.Core.Path.{sym, ap, _∙_}
@@ -9,11 +9,11 @@ use Rattle.chart.specs.declared.Triple.{Triple}
 use Rattle.rules.specs.Text.{ascii}
 use Rattle.rules.specs.Machine.{addStroke, addSegment, addBig, addSuperior, lengthen, withdraw, deriveBigs, deriveSuperiors}
 use Rattle.laws.proofs.FileCode.{one-at, two-at}
-use Rattle.log.specs.Log.{forms, formOf}
-use Rattle.log.specs.Calls.{widthBy, callBy}
-use Rattle.log.proofs.Forms.{wide-as, call-as, no-form}
-use Rattle.log.proofs.call_in.Statement.{statement}
-use Rattle.log.proofs.call_in.Tie as tie
+use Rattle.log.specs.Log.{call, forms, formOf}
+use Rattle.log.specs.Entries.{widthBy, entryBy}
+use Rattle.log.proofs.Forms.{wide-as, entry-as, no-form, no-entry}
+use Rattle.log.proofs.entry_in.Statement.{statement}
+use Rattle.log.proofs.entry_in.Tie as tie
 
 stroke-in-requires : tie.Need-stroke-in-requires
 unfolding widthBy formOf forms ascii
@@ -54,58 +54,66 @@ shared-slice-read-t18 : tie.Need-shared-slice-read-t18
 unfolding widthBy formOf forms ascii
 shared-slice-read-t18 c = wide-as _ 69 (c .before .match .keys8) _ (c .before .before .before .pre)
 
+bar-in-requires : tie.Need-bar-in-requires
+unfolding widthBy formOf forms ascii
+bar-in-requires c κs = wide-as _ 81 (c .match .keys9) _ (c .before .before .pre)
+
 returns : tie.Need-returns
-unfolding callBy formOf forms ascii
-returns c = ap (λ (s : Stroke). some (addStroke s)) (c .stroke-in .ensures) ∙ call-as _ 83 (c .before .match .keys1) _
+unfolding entryBy formOf forms ascii
+returns c = ap (λ (s : Stroke). some (call (addStroke s))) (c .stroke-in .ensures) ∙ entry-as _ 83 (c .before .match .keys1) _
 
 returns-2 : tie.Need-returns-2
-unfolding callBy formOf forms ascii
-returns-2 c = ap (λ (t : Triple). some (addSegment t)) (c .triple-in .ensures) ∙ call-as _ 71 (c .before .match .keys2) _
+unfolding entryBy formOf forms ascii
+returns-2 c = ap (λ (t : Triple). some (call (addSegment t))) (c .triple-in .ensures) ∙ entry-as _ 71 (c .before .match .keys2) _
 
 returns-3 : tie.Need-returns-3
-unfolding callBy formOf forms ascii
-returns-3 c = ap (λ (t : Triple). some (addBig t)) (c .triple-in2 .ensures) ∙ call-as _ 66 (c .before .match .keys3) _
+unfolding entryBy formOf forms ascii
+returns-3 c = ap (λ (t : Triple). some (call (addBig t))) (c .triple-in2 .ensures) ∙ entry-as _ 66 (c .before .match .keys3) _
 
 returns-4 : tie.Need-returns-4
-unfolding callBy formOf forms ascii
-returns-4 c = ap (λ (t : Triple). some (addSuperior t)) (c .triple-in3 .ensures) ∙ call-as _ 85 (c .before .match .keys4) _
+unfolding entryBy formOf forms ascii
+returns-4 c = ap (λ (t : Triple). some (call (addSuperior t))) (c .triple-in3 .ensures) ∙ entry-as _ 85 (c .before .match .keys4) _
 
 returns-5 : tie.Need-returns-5
-unfolding widthBy callBy formOf forms ascii
+unfolding widthBy entryBy formOf forms ascii
 returns-5 c =
     let arm = c .before .before .before in
     let e = arm .match .keys5 in
-    ap (λ (n : ℕ). some (lengthen n)) (c .two-of .ensures ∙ sym (two-at _ 0 (wide-as _ 76 e _ (arm .before .before .pre)))) ∙ call-as _ 76 e _
+    ap (λ (n : ℕ). some (call (lengthen n))) (c .two-of .ensures ∙ sym (two-at _ 0 (wide-as _ 76 e _ (arm .before .before .pre)))) ∙ entry-as _ 76 e _
 
 returns-6 : tie.Need-returns-6
-unfolding widthBy callBy formOf forms ascii
+unfolding widthBy entryBy formOf forms ascii
 returns-6 c =
     let e = c .before .match .keys6 in
-    ap (λ (n : ℕ). some (withdraw n)) (sym (one-at _ 0 (wide-as _ 87 e _ (c .before .before .before .pre)))) ∙ call-as _ 87 e _
+    ap (λ (n : ℕ). some (call (withdraw n))) (sym (one-at _ 0 (wide-as _ 87 e _ (c .before .before .before .pre)))) ∙ entry-as _ 87 e _
 
 returns-7 : tie.Need-returns-7
-unfolding widthBy callBy formOf forms ascii
+unfolding widthBy entryBy formOf forms ascii
 returns-7 c =
     let e = c .before .match .keys7 in
-    ap (λ (n : ℕ). some (deriveBigs n)) (sym (one-at _ 0 (wide-as _ 68 e _ (c .before .before .before .pre)))) ∙ call-as _ 68 e _
+    ap (λ (n : ℕ). some (call (deriveBigs n))) (sym (one-at _ 0 (wide-as _ 68 e _ (c .before .before .before .pre)))) ∙ entry-as _ 68 e _
 
 returns-8 : tie.Need-returns-8
-unfolding widthBy callBy formOf forms ascii
+unfolding widthBy entryBy formOf forms ascii
 returns-8 c =
     let e = c .before .match .keys8 in
-    ap (λ (n : ℕ). some (deriveSuperiors n)) (sym (one-at _ 0 (wide-as _ 69 e _ (c .before .before .before .pre)))) ∙ call-as _ 69 e _
+    ap (λ (n : ℕ). some (call (deriveSuperiors n))) (sym (one-at _ 0 (wide-as _ 69 e _ (c .before .before .before .pre)))) ∙ entry-as _ 69 e _
 
 returns-9 : tie.Need-returns-9
-unfolding callBy
-returns-9 c =
-    let no = c .match .rest .0 .0 .0 .0 in
-    let other =
-    no-form _ (no .0 .0 .0 .1) (no .0 .0 .1) (no .0 .1) (no .1) (c .match .rest .0 .0 .0 .1) (c .match .rest .0 .0 .1) (c .match .rest .0 .1)
-    (c .match .rest .1) in
-    rw other
+unfolding entryBy formOf forms ascii
+returns-9 c = c .bar-in .ensures ∙ entry-as _ 81 (c .before .match .keys9) _
 
-pub call-in-spec : {M : Type 1} → statement M
-call-in-spec =
+returns-10 : tie.Need-returns-10
+returns-10 c =
+    let first = c .match .rest .0 .0 .0 .0 .0 in
+    let later = c .match .rest .0 in
+    no-entry _
+    (no-form _ (first .0 .0 .0 .1) (first .0 .0 .1) (first .0 .1) (first .1) (later .0 .0 .0 .1) (later .0 .0 .1) (later .0 .1) (later .1)
+    (c .match .rest .1))
+    _
+
+pub entry-in-spec : {M : Type 1} → statement M
+entry-in-spec =
     tie.close
     (tie.spec
     stroke-in-requires
@@ -118,6 +126,7 @@ call-in-spec =
     shared-slice-read-t14
     shared-slice-read-t16
     shared-slice-read-t18
+    bar-in-requires
     returns
     returns-2
     returns-3
@@ -126,4 +135,5 @@ call-in-spec =
     returns-6
     returns-7
     returns-8
-    returns-9)
+    returns-9
+    returns-10)
