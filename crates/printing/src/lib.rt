@@ -166,7 +166,7 @@ fn print_side(buy: bool) {
 }
 
 // A row of the section THIRD.
-fn print_third(m: ThirdMark) {
+pub fn print_third(m: ThirdMark) {
     print_side(m.is_buy);
     print_number(m.bar_index);
     print_price(m.price);
@@ -181,7 +181,7 @@ pub fn print_thirds(rows: [ThirdMark; 512], count: u16) {
 }
 
 // A row of the section THREEN.
-fn print_threen(m: NMark) {
+pub fn print_threen(m: NMark) {
     print_side(m.is_buy);
     io::print_decimal(1, m.order as u64);
     io::write_all(1, b" ");

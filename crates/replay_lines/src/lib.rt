@@ -1,10 +1,14 @@
-// What `replay` prints of a log of calls: an answer for each call, then the chart. Of printing only safety is proved; answers and chart come
-// from the proved replay.
+// What `replay` prints of a log: an answer for each call, then the chart, and where the log has bars the marks over them. Of printing only
+// safety is proved; answers, chart and marks come from the proved replay.
 use chart::Chart;
+use chart::NMark;
 use chart::Stroke;
+use chart::ThirdMark;
 use chart::Triple;
 use chart::Zone;
 use live::Live;
+use numbering::NRows;
+use third::ThirdRows;
 ghost use Prim.Native.Nat.{_≤_};
 
 fn print_answer(number: u8) {
@@ -89,21 +93,77 @@ fn print_live(b: Live) {
     print_zones(zones, b.zone_count);
 }
 
+// The line of a mark call that is refused.
+fn print_refused(call: &[u8], number: u8) {
+    io::write_all(1, call);
+    io::write_all(1, b"refused ");
+    io::print_decimal(1, number as u64);
+    io::write_all(1, b"\n");
+}
+
+fn print_third(m: ThirdMark) {
+    io::write_all(1, b"third ");
+    printing::print_third(m);
+}
+
+fn print_thirds(rows: [ThirdMark; 512], count: u16) {
+    for i in 0..printing::shown(count, 512) {
+        print_third(rows[i]);
+    }
+}
+
+fn print_third_answer(found: ThirdRows) {
+    if found.number != 0 {
+        print_refused(b"third ", found.number);
+        return;
+    }
+    let rows = found.rows;
+    print_thirds(rows, found.count);
+}
+
+fn print_threen(m: NMark) {
+    io::write_all(1, b"threen ");
+    printing::print_threen(m);
+}
+
+fn print_threens(rows: [NMark; 512], count: u16) {
+    for i in 0..printing::shown(count, 512) {
+        print_threen(rows[i]);
+    }
+}
+
+fn print_threen_answer(found: NRows) {
+    if found.number != 0 {
+        print_refused(b"threen ", found.number);
+        return;
+    }
+    let rows = found.rows;
+    print_threens(rows, found.count);
+}
+
 fn print_bad(place: usize) {
     io::write_all(1, b"bad log at ");
     io::print_decimal(1, place as u64);
     io::write_all(1, b"\n");
 }
 
-// All lines, or `bad log at P` alone.
+// All lines, or `bad log at P` alone. A log without a bar has no line of marks.
 pub fn print_replay(log: &[u8]) {
-    let r = playback::replay(log);
-    if r.bad {
-        print_bad(r.place);
+    let all = sequel::replay_then_marks(log);
+    let run = all.run;
+    if run.bad {
+        print_bad(run.place);
         return;
     }
-    let answers = r.answers;
-    print_answers(answers, r.count);
-    let left = r.chart;
+    let answers = run.answers;
+    print_answers(answers, run.count);
+    let left = run.chart;
     print_live(left);
+    if run.bars == 0 {
+        return;
+    }
+    let thirds = all.thirds;
+    print_third_answer(thirds);
+    let marks = all.marks;
+    print_threen_answer(marks);
 }

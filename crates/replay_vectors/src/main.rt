@@ -1,4 +1,4 @@
-// Prints what `replay` prints of stored logs of calls, good and bad. Its stored output is the machine's (oracle/README.md).
+// Prints what `replay` prints of stored logs, good and bad. Its stored output is the machine's (oracle/README.md).
 ghost use Prim.Native.Nat.{_≤_, _<_};
 ghost use lib.ListN.{length};
 
