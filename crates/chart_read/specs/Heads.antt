@@ -1,10 +1,10 @@
 -- The record at the head of some bytes as the code's enums have it, and a reading whose bars are only counted. Assumes nothing.
 use Prim.Native.Nat.{ℕ, zero, suc}
-use mathlib.Core.Bool.{Bool, true, false, cond}
+use mathlib.Core.Bool.{Bool, true, false, cond, not, _||_}
 use mathlib.Core.List.{List}
 use mathlib.Core.Option.{Option, none, some}
 use lib.ListN.{length}
-use lib.Dec.{leb}
+use lib.Dec.{eqb, leb}
 use Rattle.chart.specs.declared.Triple.{Triple}
 use Rattle.chart.specs.declared.Chart.{Chart}
 use Rattle.rules.specs.Answer.{AnswerBy, Answer, NumberAt, refused, given, answered}
@@ -73,7 +73,8 @@ countBars (given c) = given (record { levels = c .levels; bars = length (c .bars
 
 -- of the reader's struct, as `loaded` has it
 unfoldable pub counted : ℕ → ℕ → Chart → ℕ → AnswerBy NumberAt Counted
-counted zero place c n = cond (overfull c) (refused (record { number = 0; place = 0 })) (given (record { levels = levelsOf c; bars = n }))
+counted zero place c n =
+    cond (not (eqb place 0) || overfull c) (refused (record { number = 0; place = 0 })) (given (record { levels = levelsOf c; bars = n }))
 counted (suc k) place c n = refused (record { number = suc k; place = place })
 
 -- a reading that is not refused

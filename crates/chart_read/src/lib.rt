@@ -13,7 +13,8 @@ ghost use Rattle.rules.specs.File.{ST, BR, tripleIn, kindOf, width, nothing, re
 ghost use Rattle.chart_read.specs.Loaded.{loaded};
 ghost use Rattle.chart_read.specs.Heads.{levelKind, kindBy, markedBy, answerOf, checked, fullBy, countBars, counted, isGiven};
 
-// A number, 0 where the file is accepted; where it is not, the place of the record's mark. The chart and the number of bars.
+// A number, 0 where the file is accepted; the place of the refused record's mark, 0 where none is refused. The chart and the
+// number of bars; beside a refusal they are free.
 pub struct Loaded {
     pub number: u8,
     pub place: usize,

@@ -5,7 +5,7 @@ use mathlib.Core.Path.{_≡_, refl, sym, ap, _∙_}
 use mathlib.Core.Bool.{Bool, true, false, not, cond, _||_}
 use mathlib.Core.List.{List}
 use lib.ListN.{length, take}
-use lib.Dec.{leb}
+use lib.Dec.{eqb, leb}
 use borrow.Author.Tests.{eq-eqb, leb-true, not-false}
 use Rattle.chart.specs.declared.Chart.{Chart}
 use Rattle.rules.specs.Answer.{AnswerBy, NumberAt, refused, given}
@@ -43,18 +43,18 @@ module _ (bytes : List ℕ) (place : ℕ) (c : Chart) (n : ℕ) (q : Quotes) whe
 
   accepted : loaded 0 place c n q ≡ readFile 2048 bytes → Given
   unfolding loaded
-  accepted e = go (overfull c || not (leb n (length (q .highs)))) refl (readFile 2048 bytes) refl e
+  accepted e = go (not (eqb place 0) || overfull c || not (leb n (length (q .highs)))) refl (readFile 2048 bytes) refl e
     where
       go :
-          (t : Bool) → (overfull c || not (leb n (length (q .highs)))) ≡ t → (a : AnswerBy NumberAt Content) → readFile 2048 bytes ≡ a
+          (t : Bool) → (not (eqb place 0) || overfull c || not (leb n (length (q .highs)))) ≡ t → (a : AnswerBy NumberAt Content) → readFile 2048 bytes ≡ a
           → cond t (refused (record { number = 0; place = 0 })) (given (record { levels = levelsOf c; bars = firsts n q })) ≡ a → Given
       go true o (refused k) g h = let z : k .number ≡ 0 = cc in absurd (omega (arith, file-above 2048 bytes k g))
       go true o (given d) g h = absurd (refused-given h)
       go false o a g h =
           record {
             is = g ∙ sym h;
-            fits = or-l (overfull c) (not (leb n (length (q .highs)))) o;
-            few = leb-true n (length (q .highs)) (not-false _ (or-r (overfull c) (not (leb n (length (q .highs)))) o));
+            fits = or-r (not (eqb place 0)) (overfull c) (or-l (not (eqb place 0) || overfull c) (not (leb n (length (q .highs)))) o);
+            few = leb-true n (length (q .highs)) (not-false _ (or-r (not (eqb place 0) || overfull c) (not (leb n (length (q .highs)))) o));
           }
 
   module _ (k : ℕ) (z : k ≡ 0) (e : loaded k place c n q ≡ readFile 2048 bytes) where
