@@ -2,25 +2,14 @@
 use chart::Chart;
 use chart_read::Loaded;
 ghost use mathlib.Core.Path.{_≡_};
-ghost use Prim.Native.Nat.{_≤_};
-ghost use lib.ListN.{length};
-ghost use Rattle.rules.specs.Answer.{given};
-ghost use Rattle.rules.specs.Records.{Quotes, levelsOf};
-ghost use Rattle.rules.specs.File.{Content, writeRefusal};
+ghost use Rattle.rules.specs.Records.{Quotes};
+ghost use Rattle.rules.specs.File.{slicesAfter, bufferAfter};
 ghost use Rattle.chart_read.specs.Loaded.{loaded};
+ghost use Rattle.chart_trip.specs.Trip.{tripCall, ReadsBack};
 
-// n, where it is at most m.
-fn clipped(n: usize, m: usize) -> usize
-    ensures { λ r. ⌜ (r ≤ m) × (n ≤ m → r ≡ n) ⌝ }
-{
-    if m < n {
-        return m;
-    }
-    n
-}
-
-// Writes a chart with its bars and reads the bytes into other slices. Where writing is not refused
-// and there is a place for every bar, the chart's records and the bars come back.
+// Writes a chart with its bars into the buffer and reads the bytes written into other slices. A refused writing gives its number, with
+// place 0, and leaves the slices as they were. Beside a refusal the chart and the number of bars are free. Where nothing is refused and there
+// is a place for every bar, the chart's records and the bars come back.
 pub fn write_and_read(
     chart: Chart,
     highs: &[f64],
@@ -29,9 +18,25 @@ pub fn write_and_read(
     new_highs: &mut [f64],
     new_lows: &mut [f64],
 ) -> Loaded
-    ensures { λ r. ⌜ (writeRefusal chart (record { highs = now (highs .entry); lows = now (lows .entry) }) (now (buffer .entry)) ≡ 0 → length (now (highs .entry)) ≤ length (now («new_highs» .entry)) → length (now («new_highs» .entry)) ≡ length (now («new_lows» .entry)) → loaded (r .number) (r .place) (r .chart) (r .bars) (record { highs = now («new_highs» .exit); lows = now («new_lows» .exit) }) ≡ given (record { levels = levelsOf chart; bars = record { highs = now (highs .entry); lows = now (lows .entry) } })) ⌝ }
+    ensures { λ r.
+        let bars : Quotes = record { highs = now (highs .entry); lows = now (lows .entry) } in
+        let old : Quotes = record { highs = now («new_highs» .entry); lows = now («new_lows» .entry) } in
+        let new : Quotes = record { highs = now («new_highs» .exit); lows = now («new_lows» .exit) } in
+        let trip = tripCall chart bars (now (buffer .entry)) old in
+        ⌜ (loaded (r .number) (r .place) (r .chart) (r .bars) new ≡ trip)
+        × (new ≡ slicesAfter trip old)
+        × (now (buffer .exit) ≡ bufferAfter chart bars (now (buffer .entry)))
+        × ReadsBack chart bars (now (buffer .entry)) old trip ⌝ }
 {
     let done = chart_write::write_chart(chart, highs, lows, buffer);
-    let count = clipped(done.count, buffer.len());
+    if done.number != 0 {
+        return Loaded {
+            number: done.number,
+            place: 0,
+            chart: chart,
+            bars: 0,
+        };
+    }
+    let count = done.count;
     chart_read::read_chart(&buffer[..count], new_highs, new_lows)
 }

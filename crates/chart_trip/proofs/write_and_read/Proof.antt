@@ -1,4 +1,4 @@
--- `chart_trip::write_and_read` meets its contract. Assumes nothing.
+-- `chart_trip::write_and_read` meets its contract: the writing's refusal, or the reading of the bytes written. Assumes nothing.
 use mathlib.Core.Path.{_≡_, sym}
 use mathlib.Core.Bool.{false}
 use lib.Seq.{length-take-le}
@@ -7,10 +7,16 @@ use Rattle.rules.specs.Records.{levelsOf}
 use Rattle.laws.proofs.FileBytes.{wide}
 use Rattle.laws.proofs.FileHeld.{anyLevel}
 use Rattle.chart_trip.proofs.Narrow.{narrow-levels}
-use Rattle.chart_trip.proofs.Trip.{read-again}
+use Rattle.chart_trip.proofs.Trip.{count-fits, refused-trip, given-trip}
 use borrow.Author.Needs.{needs}
 use Rattle.chart_trip.proofs.write_and_read.Statement.{statement}
 use Rattle.chart_trip.proofs.write_and_read.Tie as tie
+
+abbrev start : tie.After-write-chart → tie.Start
+start c = c .before .before .before .before .before .before .before
+
+abbrev wrote : tie.Else1 → tie.After-write-chart
+wrote c = c .before .before .before .before
 
 narrow : (c : tie.Start) → anyLevel wide (levelsOf (c .args .chart)) ≡ false
 narrow c =
@@ -25,20 +31,26 @@ narrow c =
 write-chart-requires : tie.Need-write-chart-requires
 write-chart-requires c κs = search needs
 
-clipped-requires : tie.Need-clipped-requires
-clipped-requires c κs = search needs
+same-length : tie.Need-same-length
+same-length c = search needs
+
+returns : tie.Need-returns
+returns c =
+    let w = c .before .before .before .before .write-chart .ensures in
+    refused-trip _ _ _ _ _ _ (w .0) (w .1 .0) _ (c .if1 .taken) _ _
 
 slice-reshare-prefix-read-chart : tie.Need-slice-reshare-prefix-read-chart
-slice-reshare-prefix-read-chart c = search needs
+slice-reshare-prefix-read-chart c =
+    let w = wrote c .write-chart .ensures in
+    count-fits _ _ _ _ _ _ (w .0) (w .1 .0) (c .if1 .left) (search needs)
 
 slice-aggregate-read-chart : tie.Need-slice-aggregate-read-chart
-slice-aggregate-read-chart c = sym (length-take-le _ _ (omega arith))
+slice-aggregate-read-chart c =
+    let w = wrote (c .before) .write-chart .ensures in
+    sym (length-take-le _ _ (count-fits _ _ _ _ _ _ (w .0) (w .1 .0) (c .before .if1 .left) (search needs)))
 
 read-chart-requires : tie.Need-read-chart-requires
 read-chart-requires c κs = search needs
-
-same-length : tie.Need-same-length
-same-length c = search needs
 
 same-length-2 : tie.Need-same-length-2
 same-length-2 c = search needs
@@ -46,25 +58,27 @@ same-length-2 c = search needs
 same-length-3 : tie.Need-same-length-3
 same-length-3 c = search needs
 
-returns : tie.Need-returns
-returns c e h same =
-    let clip = c .before .before .before .before .before .before .before .before in
-    let wrote = clip .before .before .before in
-    let start = wrote .before .before .before .before .before .before .before in
-    let read = c .before .before .before .before .read-chart .ensures in
-    let w = wrote .write-chart .ensures in
-    read-again _ _ _ e _ _ _ _ _ _ (narrow start) (w .0) (w .1 .0) (search needs) (clip .clipped .ensures .1) (read .0) h same
+same-length-4 : tie.Need-same-length-4
+same-length-4 c = search needs
+
+returns-2 : tie.Need-returns-2
+returns-2 c =
+    let read = c .before .before .before .before in
+    let test = read .before .before .before .before in
+    let w = wrote test .write-chart .ensures in
+    given-trip _ _ _ _ _ _ (w .0) (w .1 .0) _ (test .if1 .left) (narrow (start (wrote test))) _ _ (read .read-chart .ensures)
 
 pub write-and-read-spec : {M : Type 1} → statement M
 write-and-read-spec =
     tie.close
     (tie.spec
     write-chart-requires
-    clipped-requires
+    same-length
+    returns
     slice-reshare-prefix-read-chart
     slice-aggregate-read-chart
     read-chart-requires
-    same-length
     same-length-2
     same-length-3
-    returns)
+    same-length-4
+    returns-2)
