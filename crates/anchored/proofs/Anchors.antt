@@ -14,7 +14,7 @@ use Rattle.rules.specs.Lists.{keep, before}
 use Rattle.rules.specs.Records.{Levels, Quotes}
 use Rattle.rules.specs.Ranges.{lastStroke}
 use Rattle.rules.specs.Marks.{beats, numbered, push3N, anchorPrice, anchorBars, anchorStop, anchorNumbered, reaches}
-use Rattle.laws.proofs.Room.{endBars}
+use Rattle.laws.specs.Lists.{endBars}
 use Rattle.columns.specs.Columns.{Column, barOf, Prices}
 use Rattle.hits.specs.declared.Price.{Price}
 use Rattle.hits.specs.declared.Price.the-variants as price

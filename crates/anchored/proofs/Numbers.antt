@@ -16,7 +16,8 @@ use Rattle.rules.specs.Records.{Levels, Quotes}
 use Rattle.rules.specs.Ranges.{lastStroke}
 use Rattle.rules.specs.Marks.{beats, markAt, numbered, push3N, anchorBars, anchorStop, reaches}
 use Rattle.laws.proofs.Lists.{lt-at, map-at, all-at}
-use Rattle.laws.proofs.Room.{endBars, ends-there}
+use Rattle.laws.specs.Lists.{endBars}
+use Rattle.laws.proofs.Room.{ends-there}
 use Rattle.columns.specs.Columns.{Column, barOf}
 use Rattle.columns.proofs.Fill.{column-length, column-at}
 use Rattle.scan.specs.Scan.{reached, NextEnd}

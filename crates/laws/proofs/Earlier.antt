@@ -40,6 +40,7 @@ use Rattle.rules.specs.Marks.{
 }
 use Rattle.rules.specs.Refusals.{brokenLevels}
 use Rattle.rules.specs.Claims.{Earlier}
+use Rattle.laws.specs.Lists.{Rising}
 use Rattle.laws.proofs.Lists.{All, nil, cons, Sorted, none-left, then, all-of, all-map, all-right, each-all, sorted-keep, sorted-before, sorted-collect, sorted-image, any-true}
 use Rattle.laws.proofs.Keys.{Key, same, same-eq}
 use Rattle.laws.proofs.Thirds.{thirdKey}
@@ -48,9 +49,6 @@ use Rattle.laws.proofs.Room.{insert-all}
 use Rattle.laws.proofs.EndBars.{EndsBefore, bigs-rise}
 
 -- ---- rising bars
-
-abbrev pub Rising : List ℕ → Type 0
-Rising xs = Sorted (λ (a b : ℕ). a < b) xs
 
 insert-rising : (xs : List ℕ) (b : ℕ) → Rising xs → Rising (insertBar xs b)
 unfolding insertBar

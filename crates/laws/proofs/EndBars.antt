@@ -18,7 +18,7 @@ use Rattle.laws.proofs.Tests.{or-l, or-r}
 use Rattle.laws.proofs.Lists.{nil, Sorted, none-left, then, sorted-map, sorted-more, sorted-at, sorted-collect, sorted-image, then-some}
 use Rattle.laws.proofs.Ordered.{unbroken}
 use Rattle.laws.proofs.Triples.{cons-of}
-use Rattle.laws.proofs.Room.{endBars}
+use Rattle.laws.specs.Lists.{endBars}
 
 -- one stroke ends before another
 abbrev pub EndsBefore : Stroke → Stroke → Type 0

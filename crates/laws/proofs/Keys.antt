@@ -9,14 +9,11 @@ use lib.ListN.{length, getElem?}
 use lib.Dec.{eqb, ltb}
 use borrow.Author.Tests.{eqb-true, eq-eqb, ltb-true, ltb-false}
 use Rattle.rules.specs.Lists.{any}
+use Rattle.laws.specs.Lists.{Distinct}
 use Rattle.laws.proofs.Tests.{and-l, and-r}
 use Rattle.laws.proofs.Lists.{All, nil, cons, Sorted, none-left, then, all-map, all-append, sorted-at, any-false}
 
 module _ {A : Type 0} where
-  -- no element is met again
-  abbrev pub Distinct : List A → Type 0
-  Distinct xs = Sorted (λ (x y : A). x ≡ y → ⊥) xs
-
   pub distinct-snoc : {xs : List A} {y : A} → Distinct xs → All (λ (x : A). x ≡ y → ⊥) xs → Distinct (xs ++ (y ∷ []))
   distinct-snoc none-left nil = then nil none-left
   distinct-snoc (then a d) (cons p b) = then (all-append a (cons p nil)) (distinct-snoc d b)

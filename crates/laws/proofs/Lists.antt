@@ -10,18 +10,10 @@ use mathlib.Core.List.{List, [], _∷_, _++_, map, append-assoc, List·Memᴰ, L
 use mathlib.Core.Option.{Option, none, some}
 use lib.ListN.{length, take, drop, getD, getElem?, length-append}
 use Rattle.rules.specs.Lists.{keep, find, any, before, behind, andThen, collect, each}
+pub use Rattle.laws.specs.Lists.{All, nil, cons, Sorted, none-left, then}
 use Rattle.laws.proofs.Tests.{none-some, or-l, or-r, or-i}
 
 module _ {A : Type 0} where
-  pub data All (P : A → Type 0) : List A → Type 0 where
-    nil : All P []
-    cons : {x : A} {xs : List A} → P x → All P xs → All P (x ∷ xs)
-
-  -- each element stands in the relation to every later one
-  pub data Sorted (R : A → A → Type 0) : List A → Type 0 where
-    none-left : Sorted R []
-    then : {x : A} {xs : List A} → All (R x) xs → Sorted R xs → Sorted R (x ∷ xs)
-
   pub all-of : {P : A → Type 0} → ((x : A) → P x) → (xs : List A) → All P xs
   all-of h [] = nil
   all-of h (x ∷ xs) = cons (h x) (all-of h xs)

@@ -45,7 +45,8 @@ use Rattle.rules.specs.Marks.{
   nMarks,
 }
 use Rattle.laws.proofs.Lists.{All, nil, cons, all-of, all-map, all-cond, all-keep, all-before, all-behind, all-drop, all-find, all-image, all-each, all-collect, collect-length, all-answer}
-use Rattle.laws.proofs.Keys.{Distinct, pigeonhole, Key}
+use Rattle.laws.specs.Lists.{Distinct, endBars}
+use Rattle.laws.proofs.Keys.{pigeonhole, Key}
 use Rattle.laws.proofs.Thirds.{thirdKey, thirds-all, thirds-distinct}
 use Rattle.laws.proofs.Unique.{markKey, marks-distinct, numbered-all, marks-all}
 
@@ -155,10 +156,6 @@ module _ (P : ℕ → Type 0) where
           (anchorsOf c (c .superiors)))
 
 -- ---- every mark's bar is a big's end
-
--- the end bars of the bigs that have an end point
-abbrev pub endBars : Levels → List ℕ
-endBars c = map (λ (s : Stroke). s .«end_bar») (collect (lastStroke c) (c .bigs))
 
 pub ends-there : (c : Levels) (bs : List Triple) → All (AtEnd c (λ (b : ℕ). List·Memᴰ b (map (λ (s : Stroke). s .«end_bar») (collect (lastStroke c) bs)))) bs
 ends-there c [] = nil

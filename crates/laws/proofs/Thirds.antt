@@ -34,7 +34,8 @@ use Rattle.rules.specs.Marks.{
 }
 use Rattle.rules.specs.Claims.{named, Beyond}
 use Rattle.laws.proofs.Lists.{All, nil, cons, none-left, all-map, all-append, all-cond, all-each, all-there, find-passes, map-append, at-getD, all-answer}
-use Rattle.laws.proofs.Keys.{Distinct, Key, same, addKey, add-distinct}
+use Rattle.laws.specs.Lists.{Distinct}
+use Rattle.laws.proofs.Keys.{Key, same, addKey, add-distinct}
 
 abbrev pub thirdKey : ThirdMark → Key
 thirdKey m = record { «bar_index» = m .«bar_index»; «is_buy» = m .«is_buy» }

@@ -33,7 +33,8 @@ use Rattle.rules.specs.Marks.{
 }
 use Rattle.rules.specs.Claims.{Apart}
 use Rattle.laws.proofs.Lists.{All, nil, cons, all-append, all-cond, all-keep, all-image, all-each, map-at}
-use Rattle.laws.proofs.Keys.{Distinct, one-place, Key, key-eq, same, same-eq, addKey, add-distinct}
+use Rattle.laws.specs.Lists.{Distinct}
+use Rattle.laws.proofs.Keys.{one-place, Key, key-eq, same, same-eq, addKey, add-distinct}
 use Rattle.laws.proofs.Thirds.{thirdKey, thirds-distinct}
 
 abbrev pub markKey : NMark → Key

@@ -13,7 +13,8 @@ use Rattle.rules.specs.Marks.{insertBar}
 use Rattle.laws.proofs.Lists.{All, nil, cons, none-left, then, all-map, sorted-map}
 use Rattle.laws.proofs.Keys.{pigeonhole}
 use Rattle.laws.proofs.Room.{inserts-all}
-use Rattle.laws.proofs.Earlier.{Rising, inserts-rising}
+use Rattle.laws.specs.Lists.{Rising}
+use Rattle.laws.proofs.Earlier.{inserts-rising}
 use Rattle.laws.proofs.Arrays.{left-more, left-none, one-more}
 use Rattle.numbering.proofs.Places.{place-from, all-here}
 

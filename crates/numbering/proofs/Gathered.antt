@@ -15,7 +15,8 @@ use Rattle.rules.specs.Records.{Quotes}
 use Rattle.rules.specs.Marks.{markAt, push3N}
 use Rattle.laws.proofs.Tests.{or-l, or-r}
 use Rattle.laws.proofs.Lists.{All, nil, cons, all-map, all-append, all-in, any-false, all-image, sorted-image}
-use Rattle.laws.proofs.Keys.{Distinct, distinct-snoc, pigeonhole, Key, key-eq}
+use Rattle.laws.specs.Lists.{Distinct}
+use Rattle.laws.proofs.Keys.{distinct-snoc, pigeonhole, Key, key-eq}
 use Rattle.laws.proofs.Thirds.{thirdKey}
 use Rattle.laws.proofs.Arrays.{one-more}
 use Rattle.numbering.specs.Rows.{keyOf, barIn, sideIn, rowKey, markIn, marksIn, Room}

@@ -10,7 +10,7 @@ use lib.Dec.{eqb}
 use borrow.Author.Tests.{eq-eqb, ne-eqb}
 use Rattle.rules.specs.Lists.{any, before}
 use Rattle.laws.proofs.Lists.{All, cons, then}
-use Rattle.laws.proofs.Keys.{Distinct}
+use Rattle.laws.specs.Lists.{Distinct}
 use Rattle.laws.proofs.Arrays.{left-more, left-none}
 
 module _ {A : Type 0} (p : A → Bool) where

@@ -10,8 +10,7 @@ use Rattle.chart.specs.declared.NMark.{NMark}
 use Rattle.rules.specs.Lists.{any, keep, behind}
 use Rattle.rules.specs.Records.{Quotes}
 use Rattle.rules.specs.Marks.{markAt, numbered, push3N}
-use Rattle.laws.proofs.Lists.{All}
-use Rattle.laws.proofs.Keys.{Distinct}
+use Rattle.laws.specs.Lists.{All, Distinct}
 
 -- the bar and the side of a mark, as one number, and back from it
 abbrev pub keyOf : ℕ → Bool → ℕ

@@ -12,9 +12,7 @@ ghost use Rattle.rules.specs.Answer.{rowsAnswer, given};
 ghost use Rattle.rules.specs.Lists.{before, behind, keep};
 ghost use Rattle.rules.specs.Records.{Quotes};
 ghost use Rattle.rules.specs.Marks.{priceAt, numbered, insertBar, zeroAt, push3N};
-ghost use Rattle.laws.proofs.Lists.{All};
-ghost use Rattle.laws.proofs.Keys.{Distinct};
-ghost use Rattle.laws.proofs.Earlier.{Rising};
+ghost use Rattle.laws.specs.Lists.{All, Distinct, Rising};
 ghost use Rattle.numbering.specs.Rows.{keyOf, barIn, rowKey, markIn, marksIn, Room, Grown, NumbersBar};
 
 // ---- keys

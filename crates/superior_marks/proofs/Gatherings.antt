@@ -10,7 +10,7 @@ use Rattle.chart.specs.declared.Zone.{Zone}
 use Rattle.rules.specs.Records.{Levels}
 use Rattle.rules.specs.Ranges.{rangeOf}
 use Rattle.rules.specs.Marks.{pairEnds, scanned, insertBar, scannedBars}
-use Rattle.laws.proofs.Room.{endBars}
+use Rattle.laws.specs.Lists.{endBars}
 use Rattle.columns.specs.Columns.{Column, endOf}
 use Rattle.scan.specs.Scan.{reached, ZoneScan}
 use Rattle.scan.proofs.Columns.{there, column-length, column-at, records-more}

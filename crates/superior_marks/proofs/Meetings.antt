@@ -13,7 +13,8 @@ use Rattle.rules.specs.Ranges.{rangeOf}
 use Rattle.rules.specs.Marks.{pairEnds, insertBar, scannedBars}
 use Rattle.laws.proofs.Lists.{All, nil, cons, none-left, all-drop, all-in, sorted-map}
 use Rattle.laws.proofs.Keys.{pigeonhole}
-use Rattle.laws.proofs.Room.{inserts-all, pairs-all, bars-all, endBars, ends-there}
+use Rattle.laws.specs.Lists.{endBars}
+use Rattle.laws.proofs.Room.{inserts-all, pairs-all, bars-all, ends-there}
 use Rattle.laws.proofs.Earlier.{inserts-rising}
 use Rattle.columns.specs.Columns.{Column, endOf}
 use Rattle.scan.specs.declared.Pair.{Pair}

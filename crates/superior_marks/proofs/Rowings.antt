@@ -14,7 +14,7 @@ use Rattle.rules.specs.Lists.{keep, behind}
 use Rattle.rules.specs.Records.{isUp, Levels, Quotes}
 use Rattle.rules.specs.Marks.{numbered, scannedBars, zeroAt, superiorNumbered, superiorsNumbered, push3N}
 use Rattle.laws.proofs.Lists.{All}
-use Rattle.laws.proofs.Room.{endBars}
+use Rattle.laws.specs.Lists.{endBars}
 use Rattle.columns.specs.Columns.{Column}
 use Rattle.scan.proofs.Columns.{column-at, records-more, records-none}
 use Rattle.numbering.specs.Rows.{rowKey, marksIn, Room, Grown}

@@ -8,8 +8,7 @@ use Rattle.chart.specs.declared.Triple.{Triple}
 use Rattle.chart.specs.declared.Zone.{Zone}
 use Rattle.rules.specs.Records.{Levels}
 use Rattle.rules.specs.Ranges.{rangeOf}
-use Rattle.laws.proofs.Lists.{All}
-use Rattle.laws.proofs.Earlier.{Rising}
+use Rattle.laws.specs.Lists.{All, Rising}
 use Rattle.columns.specs.Columns.{Column, endOf}
 use Rattle.scan.specs.Scan.{Scanning}
 

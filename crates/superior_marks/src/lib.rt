@@ -12,7 +12,7 @@ ghost use Rattle.chart.specs.declared.Zone.{Zone};
 ghost use Rattle.rules.specs.Records.{Levels, Quotes};
 ghost use Rattle.rules.specs.Ranges.{rangeOf};
 ghost use Rattle.rules.specs.Marks.{pairEnds, insertBar, scannedBars, superiorsNumbered, push3N};
-ghost use Rattle.laws.proofs.Room.{endBars};
+ghost use Rattle.laws.specs.Lists.{endBars};
 ghost use Rattle.columns.specs.Columns.{Column, Ascending, endOf};
 ghost use Rattle.scan.specs.Scan.{reached};
 ghost use Rattle.numbering.specs.Rows.{rowKey, marksIn, Room, Grown};

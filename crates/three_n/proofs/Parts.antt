@@ -20,7 +20,8 @@ use Rattle.rules.specs.Marks.{side, quote, priceAt, thirdMarks, orderZero, supe
 use Rattle.rules.specs.Refusals.{endsOutside}
 use Rattle.laws.proofs.Lists.{All, nil, cons, all-of, all-map, all-image, all-collect, collect-length, at-getD, any-at, then-some}
 use Rattle.laws.proofs.Thirds.{thirds-beyond, thirds-distinct}
-use Rattle.laws.proofs.Room.{AtEnd, endBars, thirds-end}
+use Rattle.laws.specs.Lists.{endBars}
+use Rattle.laws.proofs.Room.{AtEnd, thirds-end}
 use Rattle.numbering.specs.Rows.{rowKey, marksIn, Room}
 use Rattle.numbering.proofs.Gathered.{room-thirds}
 use Rattle.numbering.proofs.Filled.{zero-mark}

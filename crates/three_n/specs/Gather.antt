@@ -11,8 +11,7 @@ use Rattle.rules.specs.Records.{Levels, Quotes}
 use Rattle.rules.specs.Ranges.{lastStroke}
 use Rattle.rules.specs.Zones.{overlapZones}
 use Rattle.rules.specs.Marks.{thirdMarks, anchorNumbered, anchorSide, anchorsOf}
-use Rattle.laws.proofs.Lists.{All}
-use Rattle.laws.proofs.Room.{endBars}
+use Rattle.laws.specs.Lists.{All, endBars}
 use Rattle.columns.specs.Columns.{Column, barOf, Prices, BigColumns, ZoneColumns}
 use Rattle.numbering.specs.Rows.{rowKey}
 use Rattle.superior_marks.specs.Superiors.{Stood}

@@ -7,7 +7,7 @@ use borrow.Author.Needs.{needs}
 use Rattle.chart.specs.declared.Triple.{Triple}
 use Rattle.rules.specs.Answer.{given}
 use Rattle.rules.specs.Zones.{overlapZones}
-use Rattle.laws.proofs.Room.{endBars}
+use Rattle.laws.specs.Lists.{endBars}
 use Rattle.columns.specs.Columns.{Column}
 use Rattle.columns.proofs.Fill.{column-length}
 use Rattle.numbering.specs.Rows.{Room}
