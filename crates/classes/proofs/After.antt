@@ -17,7 +17,7 @@ use Rattle.classes.specs.declared.Held.{Held}
 use Rattle.classes.specs.declared.Last.{Last}
 use Rattle.classes.specs.declared.Last.the-variants.{Begin, After}
 use Rattle.classes.specs.declared.NewClass.the-variants.{Found, Nothing}
-use Rattle.classes.specs.Items.{itemOf, Keeps, Stands, Answers, Wanted, Case3, EndsBefore, Tries}
+use Rattle.classes.specs.Items.{itemOf, Keeps, LastKept, Answers, Wanted, Case3, EndsBefore, Tries}
 
 module _ {A : Type 0} (l : Last) (f : List Item → Option Class → A) (r : A) where
   no-class : l ≡ Begin → ((items : List Item) → r ≡ f items none) → Answers l f r
@@ -72,7 +72,7 @@ module _
     begun e by3 =
         record { first = i; last = e; direction = x .direction; «by_case3» = by3; extended = false; «base_adjacent» = a }
 
-    begun-at : (items : List Item) (k : Option Class) → Stands items k l → (e : ℕ) (by3 : Bool) → begun e by3 ≡ classAt items k i (itemOf x) e by3
+    begun-at : (items : List Item) (k : Option Class) → LastKept items k l → (e : ℕ) (by3 : Bool) → begun e by3 ≡ classAt items k i (itemOf x) e by3
     unfolding classAt
     begun-at items k s e by3 = rw (← third items k s, ← before items k s, adjacent)
 

@@ -15,7 +15,7 @@ use Rattle.classes.specs.declared.Last.{Last}
 use Rattle.classes.specs.declared.Last.the-variants.{Begin, After}
 use Rattle.classes.specs.declared.NewClass.{NewClass}
 use Rattle.classes.specs.declared.NewClass.the-variants.{Found, Nothing}
-use Rattle.classes.specs.Items.{itemOf, Case2, Stands, Wanted, Begins, Tries}
+use Rattle.classes.specs.Items.{itemOf, Case2, LastKept, Wanted, Begins, Tries}
 use Rattle.classes.proofs.Items.{left-from}
 
 -- ---- the definition at the next item
@@ -38,7 +38,7 @@ module _ (on : Bool) (items : List Item) (k : Option Class) (next i : ℕ) (x : 
 -- ---- the classes that are done, and the walk from item i on after the last one: together all
 pub record Carries (on : Bool) (items : List Item) (l : Last) (next i : ℕ) (done goal : List Class) : Type 0 where
   pub k : Option Class
-  pub stands : Stands items k l
+  pub stands : LastKept items k l
   pub rest : done ++ walk on items k next i (drop i items) ≡ goal
 
 pub carries-first : (on : Bool) (items : List Item) → Carries on items Begin 0 0 [] (walk on items none 0 0 items)

@@ -42,19 +42,19 @@ unfoldable pub itemsOf : ℕ → List ℕ → List Float → List Float → List
 itemsOf zero ds ss es = []
 itemsOf (suc n) ds ss es = itemsOf n ds ss es ++ itemAt ds ss es n ∷ []
 
-abbrev pub endOf : End → Option ℕ
-endOf (At e) = some e
-endOf Nowhere = none
+abbrev pub endIndex : End → Option ℕ
+endIndex (At e) = some e
+endIndex Nowhere = none
 
 -- an end that is there lies among n items
-abbrev pub Among : ℕ → End → Type 0
-Among n (At e) = e < n
-Among n Nowhere = Unit {0}
+abbrev pub EndBelow : ℕ → End → Type 0
+EndBelow n (At e) = e < n
+EndBelow n Nowhere = Unit {0}
 
 -- r is the answer of case 2 to item i of these
 pub record Case2 (items : List Item) (n i : ℕ) (r : End) : Type 0 where
-  pub same : endOf r ≡ case2 items i
-  pub among : Among n r
+  pub same : endIndex r ≡ case2 items i
+  pub among : EndBelow n r
 
 -- ---- the last class of the walk
 
@@ -64,17 +64,17 @@ pub record Keeps (items : List Item) (k : Class) (h : Held) : Type 0 where
   pub there : getElem? items (k .first) ≡ some opening
   pub start : opening .start ≡ h .start
   pub way : k .direction ≡ h .direction
-  pub second : case2 items (k .first) ≡ endOf (h .end)
+  pub second : case2 items (k .first) ≡ endIndex (h .end)
 
-abbrev pub Stands : List Item → Option Class → Last → Type 0
-Stands items none Begin = Unit {0}
-Stands items none (After h) = ⊥
-Stands items (some k) Begin = ⊥
-Stands items (some k) (After h) = Keeps items k h
+abbrev pub LastKept : List Item → Option Class → Last → Type 0
+LastKept items none Begin = Unit {0}
+LastKept items none (After h) = ⊥
+LastKept items (some k) Begin = ⊥
+LastKept items (some k) (After h) = Keeps items k h
 
 -- the answer r to a question f about the items and the last class
 abbrev pub Answers : {A : Type 0} → Last → (List Item → Option Class → A) → A → Type 0
-Answers l f r = (items : List Item) (k : Option Class) → Stands items k l → r ≡ f items k
+Answers l f r = (items : List Item) (k : Option Class) → LastKept items k l → r ≡ f items k
 
 abbrev pub Wanted : Last → struct.Item → Bool → Type 0
 Wanted l x r = Answers l (λ (items : List Item) (k : Option Class). wanted k (itemOf x)) r
@@ -99,8 +99,8 @@ Begins n i x Nothing = Unit {0}
 -- r is the answer of item i, which is x, after the last class, its case 2 being `end`
 pub record Tries (on : Bool) (l : Last) (i : ℕ) (x : struct.Item) (end : End) (r : NewClass) : Type 0 where
   pub same :
-      (items : List Item) (k : Option Class) → Stands items k l → endOf end ≡ case2 items i → classOf r ≡ tried on items k i (itemOf x)
-  pub begins : (n : ℕ) → i < n → Among n end → Begins n i x r
+      (items : List Item) (k : Option Class) → LastKept items k l → endIndex end ≡ case2 items i → classOf r ≡ tried on items k i (itemOf x)
+  pub begins : (n : ℕ) → i < n → EndBelow n end → Begins n i x r
 
 -- ---- rows
 

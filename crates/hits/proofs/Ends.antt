@@ -27,7 +27,7 @@ use Rattle.scan.proofs.Steps.{ends-pass}
 use Rattle.scan.proofs.Columns.{column-via, column-length, column-at, records-none}
 use Rattle.hits.specs.declared.Hit.{Hit}
 use Rattle.hits.specs.declared.Hit.the-variants.{At}
-use Rattle.hits.specs.Found.{Priced, Settled}
+use Rattle.hits.specs.Found.{LentPrice, Settled}
 
 -- ---- how many bigs are anchors
 
@@ -198,11 +198,11 @@ module _
 
 -- a hit's bar is inside the lent slices
 pub hit-inside :
-    (q : Quotes) (buy : Bool) (hit : Hit) (bar : ℕ) (x : Float) (k : ℕ) → hit ≡ At bar x → Priced q buy hit → length (q .highs) ≤ k
+    (q : Quotes) (buy : Bool) (hit : Hit) (bar : ℕ) (x : Float) (k : ℕ) → hit ≡ At bar x → LentPrice q buy hit → length (q .highs) ≤ k
     → length (q .lows) ≤ k → bar < k
 hit-inside q buy hit bar x k e w h l = go buy (rw e at w)
   where
-    go : (buy : Bool) → Priced q buy (At bar x) → bar < k
+    go : (buy : Bool) → LentPrice q buy (At bar x) → bar < k
     go true v = omega (arith, v .1)
     go false v = omega (arith, v .1)
 

@@ -17,7 +17,7 @@ use Rattle.scan.specs.declared.Quote.the-variants as quoted
 use Rattle.scan.specs.Scan.{quoteOf}
 use Rattle.hits.specs.declared.Hit.{Hit}
 use Rattle.hits.specs.declared.Hit.the-variants.{At, Nothing}
-use Rattle.hits.specs.Found.{hitBar, Priced}
+use Rattle.hits.specs.Found.{hitBar, LentPrice}
 
 module _ {A : Type 0} (p : A → Bool) (x : A) (xs : List A) where
   pub find-yes : p x ≡ true → find p (x ∷ xs) ≡ some x
@@ -33,7 +33,7 @@ inside (y ∷ l) zero x e = omega arith
 inside (y ∷ l) (suc i) x e = omega (arith, inside l i x e)
 
 module _ (q : Quotes) (buy : Bool) (p : Float) (bar : ℕ) (o : Quote) (there : quoteOf o ≡ quote q buy bar) where
-  pub no-quote : o ≡ quoted.Outside → Priced q buy Nothing × (find (beats q buy p) (bar ∷ []) ≡ hitBar Nothing)
+  pub no-quote : o ≡ quoted.Outside → LentPrice q buy Nothing × (find (beats q buy p) (bar ∷ []) ≡ hitBar Nothing)
   unfolding beats
   no-quote e =
       let free : beats q buy p bar ≡ false = rw (beats, sym there ∙ ap quoteOf e) in
@@ -47,14 +47,14 @@ module _ (q : Quotes) (buy : Bool) (p : Float) (bar : ℕ) (o : Quote) (there : 
     unfolding beats
     tested = rw (beats, quote-there) (sym test)
 
-    pub quote-hit : t ≡ true → Priced q buy (At bar x) × (find (beats q buy p) (bar ∷ []) ≡ hitBar (At bar x))
+    pub quote-hit : t ≡ true → LentPrice q buy (At bar x) × (find (beats q buy p) (bar ∷ []) ≡ hitBar (At bar x))
     unfolding quote priceAt
     quote-hit h = (
       (sym (at-getD (side q buy) bar nan x quote-there), inside (side q buy) bar x quote-there),
       find-yes (beats q buy p) bar [] (tested ∙ h),
     )
 
-    pub quote-missed : t ≡ false → Priced q buy Nothing × (find (beats q buy p) (bar ∷ []) ≡ hitBar Nothing)
+    pub quote-missed : t ≡ false → LentPrice q buy Nothing × (find (beats q buy p) (bar ∷ []) ≡ hitBar Nothing)
     quote-missed h = (tt, find-no (beats q buy p) bar [] (tested ∙ h))
 
 -- a hit at the first bar of some, and none

@@ -18,9 +18,9 @@ hitBar (At bar x) = some bar
 hitBar Nothing = none
 
 -- a hit has the lent price of its bar, which lies inside the slice
-abbrev pub Priced : Quotes → Bool → Hit → Type 0
-Priced q buy (At bar x) = (x ≡ priceAt q buy bar) × (bar < length (side q buy))
-Priced q buy Nothing = Unit {0}
+abbrev pub LentPrice : Quotes → Bool → Hit → Type 0
+LentPrice q buy (At bar x) = (x ≡ priceAt q buy bar) × (bar < length (side q buy))
+LentPrice q buy Nothing = Unit {0}
 
 abbrev pub priceOf : Price → Option Float
 priceOf (price.At p) = some p

@@ -15,7 +15,7 @@ ghost use Rattle.rules.specs.Records.{Levels};
 ghost use Rattle.rules.specs.Ranges.{lastStroke};
 ghost use Rattle.rules.specs.Marks.{beats, anchorPrice};
 ghost use Rattle.columns.specs.Columns.{Column, barOf, Prices};
-ghost use Rattle.hits.specs.Found.{hitBar, Priced, Settled, priceOf};
+ghost use Rattle.hits.specs.Found.{hitBar, LentPrice, Settled, priceOf};
 
 // ---- hits
 
@@ -37,7 +37,7 @@ fn beyond(buy: bool, x: f64, p: f64) -> bool
 
 // The hit at a bar, if it is one. A bar outside the slice is no hit.
 pub fn hit_at(highs: &[f64], lows: &[f64], buy: bool, p: f64, bar: usize) -> Hit
-    ensures { λ r. ⌜ Priced (record { highs = now (highs .entry); lows = now (lows .entry) }) buy r ⌝ }
+    ensures { λ r. ⌜ LentPrice (record { highs = now (highs .entry); lows = now (lows .entry) }) buy r ⌝ }
     ensures { λ r. ⌜ find (beats (record { highs = now (highs .entry); lows = now (lows .entry) }) buy p) (bar ∷ []) ≡ hitBar r ⌝ }
 {
     let quote = scan::quote_at(highs, lows, buy, bar);

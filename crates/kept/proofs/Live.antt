@@ -20,7 +20,7 @@ use Rattle.laws.proofs.Lists.{all-map, false-any}
 use Rattle.laws.proofs.Bounds.{Bounded}
 use Rattle.laws.proofs.Zones.{zones-bounded}
 use Rattle.laws.proofs.Answers.{on-bad, on-good, Rows, rows-given, rows-refused}
-use Rattle.kept.specs.Priced.{unpriced}
+use Rattle.kept.specs.ZonePrices.{unpriced}
 use Rattle.kept.proofs.Same.{not-as-long}
 
 -- the edges of the rule's zones are prices

@@ -19,7 +19,7 @@ use Rattle.rules.specs.Refusals.{samePrice, sameZone, sameZones}
 use Rattle.laws.proofs.Tests.{or-l, or-r}
 use Rattle.laws.proofs.Lists.{any-at}
 use Rattle.laws.proofs.Arrays.{at-in, left-more, left-none}
-use Rattle.kept.specs.Priced.{unpriced}
+use Rattle.kept.specs.ZonePrices.{unpriced}
 
 -- ---- prices
 
@@ -36,13 +36,13 @@ no-price a b f p h = go (eqb (toBits binary64 a) (toBits binary64 b)) refl
 
 -- ---- a zone's prices
 
-pub record Priced (z : Zone) : Type 0 where
+pub record PricedZone (z : Zone) : Type 0 where
   pub zd-price : Price (z .zd)
   pub zg-price : Price (z .zg)
   pub dd-price : Price (z .dd)
   pub gg-price : Price (z .gg)
 
-pub priced : (z : Zone) → unpriced z ≡ false → Priced z
+pub priced : (z : Zone) → unpriced z ≡ false → PricedZone z
 unfolding unpriced
 priced z h =
     let a = not (isPrice (z .zd)) in

@@ -1,1 +1,1 @@
-pub mod Priced
+pub mod ZonePrices

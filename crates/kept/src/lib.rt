@@ -8,7 +8,7 @@ ghost use lib.ListN.{take};
 ghost use Rattle.price.specs.Price.{Price};
 ghost use Rattle.rules.specs.Lists.{any};
 ghost use Rattle.rules.specs.Refusals.{samePrice, sameZone, sameZones, badLive};
-ghost use Rattle.kept.specs.Priced.{unpriced};
+ghost use Rattle.kept.specs.ZonePrices.{unpriced};
 
 // Whether a price is the same as another, as data: what is no price is never the same as one.
 fn same_price(a: f64, b: f64) -> bool

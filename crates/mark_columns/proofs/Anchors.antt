@@ -20,10 +20,10 @@ use Rattle.hits.specs.declared.Hit.{Hit}
 use Rattle.hits.specs.declared.Hit.the-variants.{At, Nothing}
 use Rattle.hits.specs.declared.Price.{Price}
 use Rattle.hits.specs.declared.Price.the-variants as price
-use Rattle.hits.specs.Found.{hitBar, Priced, priceOf}
+use Rattle.hits.specs.Found.{hitBar, LentPrice, priceOf}
 use Rattle.hits.proofs.Hits.{hit-first, hit-later}
 use Rattle.hits.proofs.Ends.{barsIn, ends-none, ends-over, ends-next, given, given-none, given-missing, given-there}
-use Rattle.mark_columns.specs.Third.{markOf}
+use Rattle.mark_columns.specs.Third.{thirdMark}
 
 -- ---- the first hit: the bigs from place k on are left to look at
 
@@ -120,10 +120,10 @@ module _
               anchor-nothing g = no-mark (third-nothing c q buy a p priced (by-hit a (there .1) ∙ ap hitBar g))
 
               pub anchor-at :
-                  (bar : ℕ) (x : Float) → hit ≡ At bar x → Priced q buy hit
-                  → (done ++ (markOf bar x buy false p ∷ [])) ++ marksIn c q buy rest ≡ goal
+                  (bar : ℕ) (x : Float) → hit ≡ At bar x → LentPrice q buy hit
+                  → (done ++ (thirdMark bar x buy false p ∷ [])) ++ marksIn c q buy rest ≡ goal
               unfolding thirdAt
               anchor-at bar x g w =
-                  let inside : Priced q buy (At bar x) = rw g at w in
+                  let inside : LentPrice q buy (At bar x) = rw g at w in
                   let mark = third-at c q buy a p priced bar (by-hit a (there .1) ∙ ap hitBar g) in
                   rw (append-assoc, inside .0) (rw mark at (there .2))

@@ -15,7 +15,7 @@ use Rattle.rules.specs.Marks.{addThird}
 use Rattle.laws.proofs.Arrays.{left-more, left-none}
 use Rattle.columns.proofs.Fill as fill
 use Rattle.numbering.specs.Rows.{keyOf, rowKey}
-use Rattle.mark_columns.specs.Third.{groundOf, isZone, groundPrice, markOf, Marked}
+use Rattle.mark_columns.specs.Third.{groundOf, isZone, groundPrice, thirdMark, Marked}
 
 -- ---- keys
 
@@ -84,7 +84,7 @@ module _
     (is-key : key ≡ keyOf bar buy) (r : Bool) (seen : r ≡ any (λ (k : ℕ). eqb k key) (take count keys))
   where
     abbrev m : ThirdMark
-    m = markOf bar x buy zone p
+    m = thirdMark bar x buy zone p
 
     among : any (λ (k : ℕ). eqb k (rowKey m)) (map rowKey l) ≡ r
     among = sym (rw (is-key, marked .by-key .are) at seen)

@@ -33,8 +33,8 @@ use Rattle.scan.specs.Scan.{reached, pairsBy, Later, ZoneScan, Scanning}
 use Rattle.scan.proofs.Columns.{there, records-none}
 use Rattle.hits.specs.declared.Hit.{Hit}
 use Rattle.hits.specs.declared.Hit.the-variants.{At, Nothing}
-use Rattle.hits.specs.Found.{hitBar, Priced}
-use Rattle.mark_columns.specs.Third.{markOf}
+use Rattle.hits.specs.Found.{hitBar, LentPrice}
+use Rattle.mark_columns.specs.Third.{thirdMark}
 use Rattle.hits.proofs.Hits.{hit-first, hit-later}
 
 -- ---- one zone
@@ -69,12 +69,12 @@ pub pair-later : (from m : ℕ) (r : Pair) (next bar : ℕ) → Later from m r �
 pair-later from m r next bar h e = subst (Later from m) e h
 
 -- a hit has its bar's lent price, inside both slices
-module _ (q : Quotes) (buy : Bool) (h : Hit) (priced : Priced q buy h) (bar : ℕ) (x : Float) (e : h ≡ At bar x) where
+module _ (q : Quotes) (buy : Bool) (h : Hit) (priced : LentPrice q buy h) (bar : ℕ) (x : Float) (e : h ≡ At bar x) where
   pub hit-price : x ≡ priceAt q buy bar
-  hit-price = subst (Priced q buy) e priced .0
+  hit-price = subst (LentPrice q buy) e priced .0
 
   pub hit-within : (n : ℕ) → length (q .highs) ≤ n → length (q .lows) ≤ n → bar < n
-  hit-within n high low = go buy (subst (Priced q buy) e priced .1)
+  hit-within n high low = go buy (subst (LentPrice q buy) e priced .1)
     where
       go : (b : Bool) → bar < length (cond b (q .lows) (q .highs)) → bar < n
       go true k = omega arith
@@ -151,6 +151,6 @@ module _
 
         pub zone-mark :
             (bar : ℕ) (x : Float) → hit ≡ At bar x → x ≡ priceAt q (isUp (getD sides i 0)) bar
-            → (done ++ (markOf bar x (isUp (getD sides i 0)) true edge ∷ [])) ++ each (zoneThird c q zs) (drop (i + 1) zs) ≡ all
+            → (done ++ (thirdMark bar x (isUp (getD sides i 0)) true edge ∷ [])) ++ each (zoneThird c q zs) (drop (i + 1) zs) ≡ all
         zone-mark bar x e p =
             rw append-assoc (rw (third-hit c q zs z _ _ _ scan edge edged hit (found _ (scan .ends)) bar x e p) at next-zone)

@@ -22,8 +22,8 @@ abbrev pub groundPrice : Ground → Float
 groundPrice (ground.Zone p) = p
 groundPrice (ground.Anchor p) = p
 
-abbrev pub markOf : ℕ → Float → Bool → Bool → Float → ThirdMark
-markOf bar x buy zone p = record { «bar_index» = bar; price = x; «is_buy» = buy; ground = groundOf zone p }
+abbrev pub thirdMark : ℕ → Float → Bool → Bool → Float → ThirdMark
+thirdMark bar x buy zone p = record { «bar_index» = bar; price = x; «is_buy» = buy; ground = groundOf zone p }
 
 -- the first `count` places of the columns have the marks l
 pub record Marked (count : ℕ) (keys bars : List ℕ) (prices grounds : List Float) (zoned : List Bool) (l : List ThirdMark) : Type 0 where

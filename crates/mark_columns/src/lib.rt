@@ -20,8 +20,8 @@ ghost use Rattle.rules.specs.Ranges.{rangeOf, lastStroke};
 ghost use Rattle.rules.specs.Marks.{beats, pairEnds, zoneThird, anchorBars, anchorThird, addThird};
 ghost use Rattle.columns.specs.Columns.{Column, startOf, endOf, barOf, Prices};
 ghost use Rattle.scan.specs.Scan.{reached, Scanning};
-ghost use Rattle.hits.specs.Found.{hitBar, Priced, Settled};
-ghost use Rattle.mark_columns.specs.Third.{markOf, Marked};
+ghost use Rattle.hits.specs.Found.{hitBar, LentPrice, Settled};
+ghost use Rattle.mark_columns.specs.Third.{thirdMark, Marked};
 
 // ---- marks in columns
 
@@ -56,7 +56,7 @@ fn put(
 ) -> usize
     requires { ⌜ (count < length (now keys)) × (count < length (now bars)) × (count < length (now prices)) × (count < length (now grounds)) × (count < length (now zoned)) ⌝ }
     ensures { λ r. ⌜ (r ≤ count + 1) × (length (now (keys .exit)) ≡ length (now (keys .entry))) × (length (now (bars .exit)) ≡ length (now (bars .entry))) × (length (now (prices .exit)) ≡ length (now (prices .entry))) × (length (now (grounds .exit)) ≡ length (now (grounds .entry))) × (length (now (zoned .exit)) ≡ length (now (zoned .entry))) ⌝ }
-    ensures { λ r. ⌜ ((l : List ThirdMark) → Marked count (now (keys .entry)) (now (bars .entry)) (now (prices .entry)) (now (grounds .entry)) (now (zoned .entry)) l → Marked r (now (keys .exit)) (now (bars .exit)) (now (prices .exit)) (now (grounds .exit)) (now (zoned .exit)) (addThird l (markOf bar x buy zone p))) ⌝ }
+    ensures { λ r. ⌜ ((l : List ThirdMark) → Marked count (now (keys .entry)) (now (bars .entry)) (now (prices .entry)) (now (grounds .entry)) (now (zoned .entry)) l → Marked r (now (keys .exit)) (now (bars .exit)) (now (prices .exit)) (now (grounds .exit)) (now (zoned .exit)) (addThird l (thirdMark bar x buy zone p))) ⌝ }
 {
     let key = numbering::key_of(bar, buy);
     if seen(keys, count, key) {
@@ -85,7 +85,7 @@ fn zone_hit(
     lows: &[f64],
 ) -> Hit
     requires { ⌜ (m ≤ length (now ways)) × (m ≤ length (now ends)) × (m ≤ 256) ⌝ }
-    ensures { λ r. ⌜ Priced (record { highs = now (highs .entry); lows = now (lows .entry) }) (isUp d) r ⌝ }
+    ensures { λ r. ⌜ LentPrice (record { highs = now (highs .entry); lows = now (lows .entry) }) (isUp d) r ⌝ }
     ensures { λ r. ⌜ ((c : Levels) (stop : ℕ → Bool) → Column (λ (t : Triple). t .direction) m (now (ways .entry)) (c .bigs) → Column endOf m (now (ends .entry)) (map (rangeOf c) (c .bigs)) → ((bar : ℕ) → stop bar ≡ reached limit bar) → find (beats (record { highs = now (highs .entry); lows = now (lows .entry) }) (isUp d) p) (pairEnds c stop d (drop from (c .bigs))) ≡ hitBar r) ⌝ }
 {
     let buy = d == 1;
@@ -183,7 +183,7 @@ fn anchor_hit(
 ) -> Hit
     requires { ⌜ (m ≤ length (now ways)) × (m ≤ length (now bars)) × (m ≤ 256) ⌝ }
     requires { ⌜ Settled (now bars) after from ⌝ }
-    ensures { λ r. ⌜ Priced (record { highs = now (highs .entry); lows = now (lows .entry) }) buy r ⌝ }
+    ensures { λ r. ⌜ LentPrice (record { highs = now (highs .entry); lows = now (lows .entry) }) buy r ⌝ }
     ensures { λ r. ⌜ ((c : Levels) (a : Stroke) → Column (λ (t : Triple). t .direction) m (now (ways .entry)) (c .bigs) → Column barOf m (now (bars .entry)) (map (lastStroke c) (c .bigs)) → after ≡ suc (a .«end_bar») → find (beats (record { highs = now (highs .entry); lows = now (lows .entry) }) buy p) (anchorBars c buy a) ≡ hitBar r) ⌝ }
 {
     let mut k = from;

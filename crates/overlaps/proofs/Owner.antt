@@ -16,7 +16,7 @@ use Rattle.laws.proofs.Lists.{lt-at, at-getD, map-at}
 use Rattle.columns.specs.Columns.{Column, Spans, rangeAt, ZoneColumns}
 use Rattle.columns.proofs.Fill.{column-at, column-length}
 use Rattle.zones.specs.declared.Step.{Step}
-use Rattle.zones.specs.Scan.{scanned}
+use Rattle.zones.specs.Scan.{runsFrom}
 use Rattle.zones.proofs.Laws.{Turned, turn-same, still, still-more, still-none, scans}
 use Rattle.overlaps.specs.Filled.{Long, Filled}
 use Rattle.overlaps.proofs.Held.{Holds, holds-from, holds-more, holds-full, holds-all}
@@ -59,7 +59,7 @@ module _
     pub few : count ≤ 256
     pub long : Long o s e l g
     pub short : z .members ≤ i
-    pub left : Each (λ m range members zs. Holds count o s e l g (scanned h b z (still range members d last i)) (zs ++ zones range members))
+    pub left : Each (λ m range members zs. Holds count o s e l g (runsFrom h b z (still range members d last i)) (zs ++ zones range members))
 
   pub starts-scan : (z : Zone) → z .members ≡ 0 → from ≤ 256 → Long o₀ s₀ e₀ l₀ g₀ → Among from o₀ s₀ e₀ l₀ g₀ false z first
   starts-scan z none-yet few long =
@@ -78,7 +78,7 @@ module _
         (more : i ≤ last) (rng : Range) (known : rng ≡ rangeAt (getD starts i 0) (getD ends i 0) (getD lows i nan) (getD highs i nan)) (r : Step)
         (step : Turned h d i z b (getD ways i 0) rng (r .closed) (r .begun) (r .run)) where
       abbrev onward : (Triple → Range) → List Triple → List Zone
-      onward range members = scanned h (r .begun) (r .run) (still range members d last (i + 1))
+      onward range members = runsFrom h (r .begun) (r .run) (still range members d last (i + 1))
 
       turned : (closed : Bool) → r .closed ≡ closed → Each (λ m range members zs. Holds count o s e l g (cond closed (z ∷ []) [] ++ onward range members) (zs ++ zones range members))
       turned closed f m range members zs inside c spans held =
@@ -117,13 +117,13 @@ module _
     -- the records are through: a run that is under way is a zone
     module _ (past : last < i) where
       pub ends-on : b ≡ false → Gives count o s e l g
-      unfolding scanned runs
+      unfolding runsFrom runs
       ends-on f m range members zs inside c spans held =
           holds-all count o s e l g (zs ++ zones range members) (now .few)
           (rw (still-none range members d last i past, f) at (now .left m range members zs inside c spans held))
 
       ends-zone : b ≡ true → Each (λ m range members zs. Holds count o s e l g (z ∷ []) (zs ++ zones range members))
-      unfolding scanned cut
+      unfolding runsFrom cut
       ends-zone f m range members zs inside c spans held =
           rw (still-none range members d last i past, f) at (now .left m range members zs inside c spans held)
 

@@ -15,7 +15,7 @@ use Rattle.columns.specs.Columns.{Column, endOf}
 use Rattle.scan.specs.Scan.{reached, ZoneScan}
 use Rattle.scan.proofs.Columns.{there, column-length, column-at, records-more}
 use Rattle.scan.proofs.Steps.{no-zone}
-use Rattle.superior_marks.specs.Superiors.{Stood, Inside, Among}
+use Rattle.superior_marks.specs.Superiors.{Stood, Inside, RisingAmong}
 use Rattle.superior_marks.proofs.Meetings.{among-more, pairs-end}
 use Rattle.superior_marks.proofs.Blocks.{barsIn, bars-own, bars-pass, bars-before, bars-behind}
 
@@ -31,8 +31,8 @@ pub record Gathering (h : ℕ) (owners sides froms limits : List ℕ) (from to :
   pub wide : length bars ≡ 257
   pub low : k ≤ 257
   pub among :
-      (n : ℕ) (c : Levels) (zs : List Zone) → Stood c zs m n ways ends owners sides froms limits → Among (endBars c) []
-      → Among (endBars c) (take k bars)
+      (n : ℕ) (c : Levels) (zs : List Zone) → Stood c zs m n ways ends owners sides froms limits → RisingAmong (endBars c) []
+      → RisingAmong (endBars c) (take k bars)
   pub left :
       (n : ℕ) (c : Levels) (zs : List Zone) → Inside owners n h from to → Stood c zs m n ways ends owners sides froms limits
       → foldl insertBar (take k bars) (barsIn c zs h (drop i zs)) ≡ scannedBars c zs h
@@ -98,7 +98,7 @@ module _ (h : ℕ) (owners sides froms limits : List ℕ) (from to : ℕ) (ways 
             low = low;
             among =
                 λ n c zs s a.
-                subst (Among (endBars c)) (sym (put c (reached (getD limits i 0)) (s .by-way) (s .by-end) (λ b. refl)))
+                subst (RisingAmong (endBars c)) (sym (put c (reached (getD limits i 0)) (s .by-way) (s .by-end) (λ b. refl)))
                 (among-more (endBars c) (take k bars) _ (so-far .among n c zs s a) (pairs-end c (reached (getD limits i 0)) (getD sides i 0) (getD froms i 0)));
             left =
                 λ n c zs block s.

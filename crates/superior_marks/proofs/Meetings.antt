@@ -21,19 +21,19 @@ use Rattle.scan.specs.declared.Pair.{Pair}
 use Rattle.scan.specs.declared.Pair.the-variants.{At, Over}
 use Rattle.scan.specs.Scan.{reached, pairsBy, Later}
 use Rattle.scan.proofs.Columns.{records-none}
-use Rattle.superior_marks.specs.Superiors.{Among}
+use Rattle.superior_marks.specs.Superiors.{RisingAmong}
 
 -- ---- bars among the ends of bigs
 
-pub among-none : (ends : List ℕ) → length ends ≤ 256 → All (λ (b : ℕ). b < 0x1_0000) ends → Among ends []
+pub among-none : (ends : List ℕ) → length ends ≤ 256 → All (λ (b : ℕ). b < 0x1_0000) ends → RisingAmong ends []
 among-none ends few small = record { few = few; small = small; rising = none-left; there = nil }
 
-pub among-few : {ends bars : List ℕ} → Among ends bars → length bars ≤ 256
+pub among-few : {ends bars : List ℕ} → RisingAmong ends bars → length bars ≤ 256
 among-few a =
     let fits = pigeonhole (sorted-map (λ x y h e. omega arith) (a .rising)) (a .there) in
     omega (arith, a .few, fits)
 
-pub among-more : (ends bars l : List ℕ) → Among ends bars → All (λ (b : ℕ). List·Memᴰ b ends) l → Among ends (foldl insertBar bars l)
+pub among-more : (ends bars l : List ℕ) → RisingAmong ends bars → All (λ (b : ℕ). List·Memᴰ b ends) l → RisingAmong ends (foldl insertBar bars l)
 among-more ends bars l a h =
     record {
       few = a .few;
@@ -59,7 +59,7 @@ pub record Meeting (ways ends : List ℕ) (m d limit from : ℕ) (bars₀ : List
   pub hinted : hint ≤ count
   pub among :
       (c : Levels) → Column (λ (t : Triple). t .direction) m ways (c .bigs) → Column endOf m ends (map (rangeOf c) (c .bigs))
-      → Among (endBars c) (take k bars₀) → Among (endBars c) (take count bars)
+      → RisingAmong (endBars c) (take k bars₀) → RisingAmong (endBars c) (take count bars)
   pub left :
       (c : Levels) (stop : ℕ → Bool) → Column (λ (t : Triple). t .direction) m ways (c .bigs) → Column endOf m ends (map (rangeOf c) (c .bigs))
       → ((bar : ℕ) → stop bar ≡ reached limit bar)
@@ -75,7 +75,7 @@ module _ (ways ends : List ℕ) (m d limit from : ℕ) (bars₀ : List ℕ) (k :
     -- there is room for one bar more
     pub meeting-room :
         (c : Levels) → Column (λ (t : Triple). t .direction) m ways (c .bigs) → Column endOf m ends (map (rangeOf c) (c .bigs))
-        → Among (endBars c) (take k bars₀) → count ≤ 256
+        → RisingAmong (endBars c) (take k bars₀) → count ≤ 256
     meeting-room c by-way by-end a =
         omega (arith, among-few (so-far .among c by-way by-end a), length-take-le count bars (omega (arith, so-far .wide, so-far .low)))
 
@@ -121,7 +121,7 @@ module _ (ways ends : List ℕ) (m d limit from : ℕ) (bars₀ : List ℕ) (k :
 
           pub bar-small :
               (c : Levels) → Column (λ (t : Triple). t .direction) m ways (c .bigs) → Column endOf m ends (map (rangeOf c) (c .bigs))
-              → Among (endBars c) (take k bars₀) → bar < 0x1_0000
+              → RisingAmong (endBars c) (take k bars₀) → bar < 0x1_0000
           bar-small c by-way by-end a = all-in (a .small) (bar-end c by-way by-end)
 
           pub meeting-next :
@@ -135,7 +135,7 @@ module _ (ways ends : List ℕ) (m d limit from : ℕ) (bars₀ : List ℕ) (k :
                 hinted = hinted;
                 among =
                     λ c by-way by-end a.
-                    subst (Among (endBars c)) (sym put)
+                    subst (RisingAmong (endBars c)) (sym put)
                     (among-more (endBars c) (take count bars) (bar ∷ []) (so-far .among c by-way by-end a) (cons (bar-end c by-way by-end) nil));
                 left =
                     λ c stop by-way by-end lim.

@@ -19,14 +19,14 @@ use Rattle.columns.specs.Columns.{Column}
 use Rattle.scan.proofs.Columns.{column-at, records-more, records-none}
 use Rattle.numbering.specs.Rows.{rowKey, marksIn, Room, Grown}
 use Rattle.numbering.proofs.Numbers.{grown-none, grown-then}
-use Rattle.superior_marks.specs.Superiors.{Stood, Among}
+use Rattle.superior_marks.specs.Superiors.{Stood, RisingAmong}
 use Rattle.superior_marks.proofs.Meetings.{among-none, bars-end}
 
 abbrev no-triple : Triple
 no-triple = record { direction = 0; first = 0; last = 0 }
 
 -- room for rows tells that the ends are few and small
-pub room-among : (ends keys : List ℕ) (n : ℕ) → Room ends keys n → Among ends []
+pub room-among : (ends keys : List ℕ) (n : ℕ) → Room ends keys n → RisingAmong ends []
 room-among ends keys n r = among-none ends (r .few) (r .small)
 
 -- the marks that these bars of a superior get

@@ -38,7 +38,7 @@ pub record Owned (owners : List ℕ) (n h from to : ℕ) : Type 0 where
   pub own : (j : ℕ) → from ≤ j → j < to → getD owners j 0 ≡ h
 
 -- Rising bars among these ends, at most 256 bars that a u16 holds. So there are at most 256 of them
-pub record Among (ends bars : List ℕ) : Type 0 where
+pub record RisingAmong (ends bars : List ℕ) : Type 0 where
   pub few : length ends ≤ 256
   pub small : All (λ (b : ℕ). b < 0x1_0000) ends
   pub rising : Rising bars

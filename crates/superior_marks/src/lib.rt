@@ -16,7 +16,7 @@ ghost use Rattle.laws.specs.Lists.{endBars};
 ghost use Rattle.columns.specs.Columns.{Column, Ascending, endOf};
 ghost use Rattle.scan.specs.Scan.{reached};
 ghost use Rattle.numbering.specs.Rows.{rowKey, marksIn, Room, Grown};
-ghost use Rattle.superior_marks.specs.Superiors.{Stood, Inside, Parted, Owned, Among};
+ghost use Rattle.superior_marks.specs.Superiors.{Stood, Inside, Parted, Owned, RisingAmong};
 
 // ---- bars
 
@@ -33,7 +33,7 @@ fn zone_bars(
     k: usize,
 ) -> usize
     requires { ⌜ (m ≤ length (now ways)) × (m ≤ length (now ends)) × (m ≤ 256) × (length (now bars) ≡ 257) × (k ≤ 257) ⌝ }
-    requires { ⌜ ((c : Levels) × Column (λ (t : Triple). t .direction) m (now ways) (c .bigs) × Column endOf m (now ends) (map (rangeOf c) (c .bigs)) × Among (endBars c) (take k (now bars))) ⌝ }
+    requires { ⌜ ((c : Levels) × Column (λ (t : Triple). t .direction) m (now ways) (c .bigs) × Column endOf m (now ends) (map (rangeOf c) (c .bigs)) × RisingAmong (endBars c) (take k (now bars))) ⌝ }
     ensures { λ r. ⌜ (r ≤ 257) × (length (now (bars .exit)) ≡ 257) ⌝ }
     ensures { λ r. ⌜ ((c : Levels) (stop : ℕ → Bool) → Column (λ (t : Triple). t .direction) m (now (ways .entry)) (c .bigs) → Column endOf m (now (ends .entry)) (map (rangeOf c) (c .bigs)) → ((bar : ℕ) → stop bar ≡ reached limit bar) → take r (now (bars .exit)) ≡ foldl insertBar (take k (now (bars .entry))) (pairEnds c stop d (drop from (c .bigs)))) ⌝ }
 {
@@ -70,7 +70,7 @@ fn superior_bars(
 ) -> usize
     requires { ⌜ (m ≤ length (now ways)) × (m ≤ length (now ends)) × (m ≤ 256) × (length (now bars) ≡ 257) ⌝ }
     requires { ⌜ (to ≤ length (now owners)) × (to ≤ length (now sides)) × (to ≤ length (now froms)) × (to ≤ length (now limits)) ⌝ }
-    requires { ⌜ ((n : ℕ) × (c : Levels) × (zs : List Zone) × Stood c zs m n (now ways) (now ends) (now owners) (now sides) (now froms) (now limits) × Among (endBars c) []) ⌝ }
+    requires { ⌜ ((n : ℕ) × (c : Levels) × (zs : List Zone) × Stood c zs m n (now ways) (now ends) (now owners) (now sides) (now froms) (now limits) × RisingAmong (endBars c) []) ⌝ }
     ensures { λ r. ⌜ (r ≤ 257) × (length (now (bars .exit)) ≡ 257) ⌝ }
     ensures { λ r. ⌜ ((n : ℕ) (c : Levels) (zs : List Zone) → Inside (now (owners .entry)) n h from to → Stood c zs m n (now (ways .entry)) (now (ends .entry)) (now (owners .entry)) (now (sides .entry)) (now (froms .entry)) (now (limits .entry)) → take r (now (bars .exit)) ≡ scannedBars c zs h) ⌝ }
 {

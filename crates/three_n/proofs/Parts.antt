@@ -28,7 +28,7 @@ use Rattle.numbering.proofs.Filled.{zero-mark}
 use Rattle.columns.specs.Columns.{Column}
 use Rattle.columns.proofs.Fill.{column-length}
 use Rattle.scan.specs.Scan.{Scanning}
-use Rattle.three_n.specs.Gather.{Inside, Anchors, Ready, Given}
+use Rattle.three_n.specs.Gather.{EndsInside, Anchors, Ready, Given}
 
 -- ---- no stroke ends outside the slices, so no big does
 
@@ -40,7 +40,7 @@ module _ (c : Levels) (q : Quotes) (none : endsOutside c q ≡ false) (one : len
       let in-highs = leb-false (length (q .highs)) (s .«end_bar») (any-at (λ (x : Stroke). leb (length (q .highs)) (x .«end_bar»)) (c .strokes) (t .last) s none g) in
       (in-highs, omega (arith, in-highs, one))
 
-  pub ends-inside : Inside c q
+  pub ends-inside : EndsInside c q
   ends-inside = all-image (λ (s : Stroke). s .«end_bar») (all-collect (lastStroke c) (all-of end-inside (c .bigs)))
 
 -- ---- the third marks, by the keys of their rows
@@ -68,7 +68,7 @@ module _ (c : Levels) (q : Quotes) (zeros : ℕ) (keys : List ℕ) (e : Column r
   thirds-priced = all-map (λ m h. at-getD (side q (m .«is_buy»)) (m .«bar_index») nan (m .price) (h .quoted)) (thirds-beyond c q)
 
   -- the keys of the rows of order 0
-  pub thirds-room : length (c .bigs) ≤ 256 → length (q .highs) ≤ 0x1_0000 → Inside c q → Room (endBars c) keys zeros
+  pub thirds-room : length (c .bigs) ≤ 256 → length (q .highs) ≤ 0x1_0000 → EndsInside c q → Room (endBars c) keys zeros
   thirds-room few small inside =
       room-thirds
       (omega (arith, few, length-map (collect (lastStroke c) (c .bigs)) (λ (s : Stroke). s .«end_bar»), collect-length (lastStroke c) (c .bigs)))

@@ -17,8 +17,8 @@ use Rattle.numbering.specs.Rows.{rowKey}
 use Rattle.superior_marks.specs.Superiors.{Stood}
 
 -- the end bars of all bigs are inside the lent slices
-abbrev pub Inside : Levels → Quotes → Type 0
-Inside c q = All (λ (b : ℕ). (b < length (q .highs)) × (b < length (q .lows))) (endBars c)
+abbrev pub EndsInside : Levels → Quotes → Type 0
+EndsInside c q = All (λ (b : ℕ). (b < length (q .highs)) × (b < length (q .lows))) (endBars c)
 
 -- the first k bigs give what the anchors give, where their side is this
 abbrev pub Anchors : Levels → Quotes → ℕ → Bool → Type 0
@@ -38,7 +38,7 @@ pub record Ready
     pub level : take h superiors ≡ c .superiors
     pub anchors : Anchors c q k buy
     pub thirds : Column rowKey zeros keys (thirdMarks c q)
-    pub inside : Inside c q
+    pub inside : EndsInside c q
 
 -- the columns of m bigs and n zones and the array of h superiors are those of a chart whose bigs end inside the lent slices
 pub record Given
@@ -48,4 +48,4 @@ pub record Given
     pub bigs : BigColumns c m ways starts ends points prices
     pub level : take h superiors ≡ c .superiors
     pub zones : ZoneColumns n owners zone-starts zone-ends zds zgs (overlapZones c)
-    pub inside : Inside c q
+    pub inside : EndsInside c q

@@ -6,6 +6,6 @@ use Rattle.chart.specs.declared.Zone.{Zone}
 use Rattle.rules.specs.Zones.{Member, cut, runs}
 
 -- the zones of the run that is under way, if there is one, and of the members of owner h that follow
-unfoldable pub scanned : ℕ → Bool → Zone → List Member → List Zone
-scanned h true z ms = cut z ms
-scanned h false z ms = runs h ms
+unfoldable pub runsFrom : ℕ → Bool → Zone → List Member → List Zone
+runsFrom h true z ms = cut z ms
+runsFrom h false z ms = runs h ms

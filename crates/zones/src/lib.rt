@@ -18,7 +18,7 @@ ghost use Rattle.rules.specs.Answer.{refused, answered, rowsAnswer};
 ghost use Rattle.rules.specs.Zones.{Member, opposing, begin, joins, join, zonesFrom};
 ghost use Rattle.rules.specs.Refusals.{refuse};
 ghost use Rattle.rules.specs.Calls.{zonesCall};
-ghost use Rattle.zones.specs.Scan.{scanned};
+ghost use Rattle.zones.specs.Scan.{runsFrom};
 
 // The answer of a zone call: a number, and where it is 0 the first `count` rows. The rows stand first: behind the numbers they would
 // have a gap before them, and the compiler would then copy them once more.
@@ -100,7 +100,7 @@ pub fn turn(
 ) -> Step
     requires { ⌜ run .members < 65535 ⌝ }
     ensures { λ r. ⌜ r .run .members ≤ run .members + 1 ⌝ }
-    ensures { λ r. ⌜ ((member : Triple) (ms : List Member) → member .direction ≡ way → cond (r .closed) (run ∷ []) [] ++ scanned h (r .begun) (r .run) ms ≡ scanned h begun run (opposing (λ (b : Triple). range) direction index (member ∷ []) ++ ms)) ⌝ }
+    ensures { λ r. ⌜ ((member : Triple) (ms : List Member) → member .direction ≡ way → cond (r .closed) (run ∷ []) [] ++ runsFrom h (r .begun) (r .run) ms ≡ runsFrom h begun run (opposing (λ (b : Triple). range) direction index (member ∷ []) ++ ms)) ⌝ }
 {
     if way == direction {
         return Step {

@@ -1,9 +1,9 @@
 -- `kept::same_zone` meets its contract. Assumes nothing.
-use Rattle.kept.proofs.Same.{Priced, priced, same-fields}
+use Rattle.kept.proofs.Same.{PricedZone, priced, same-fields}
 use Rattle.kept.proofs.same_zone.Statement.{statement}
 use Rattle.kept.proofs.same_zone.Tie as tie
 
-prices : (c : tie.After-struct-known6) → Priced (c .before .before .before .before .before .before .args .b)
+prices : (c : tie.After-struct-known6) → PricedZone (c .before .before .before .before .before .before .args .b)
 prices c = priced _ (c .before .before .before .before .before .before .pre)
 
 same-price-requires : tie.Need-same-price-requires
