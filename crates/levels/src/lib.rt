@@ -1,4 +1,4 @@
-// What every call on a chart begins with: refusal 21, the ranges of all bigs, and the end point of one.
+// What every call on a chart begins with, refusal 21 and the ranges of all bigs; and the calls for one big, its range and its end point.
 use chart::Chart;
 use chart::EndPoint;
 use chart::Range;
