@@ -8,3 +8,4 @@ pub mod CallFacts
 pub mod FileFacts
 pub mod Readings
 pub mod Borders
+pub mod BarLimit
