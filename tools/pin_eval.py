@@ -5,6 +5,9 @@ import re, struct, sys, time
 
 TOKEN = re.compile(r'--[^\n]*|text\.\[\]|"(?:\\.|[^"\\])*"|«\w+»|0x[0-9A-Fa-f_]+|\d+|[()\[\]{};]|\.(?=[^\s.])|[^\s()\[\]{};"«».]+(?:\.[^\s()\[\]{};"«».]+)*|\.')
 
+# files with no definition or fact to evaluate: the fact of BarLimit is a law, and its file would be 36,882 bytes long
+UNREAD = {"Lib", "Computing", "Claims", "BarLimit"}
+
 class Unsupported(Exception):
     pass
 
@@ -325,7 +328,8 @@ def chunks(text):
 class Module:
     """The definitions of one file: signatures, clauses by name, and the facts of its records."""
     def __init__(self, key, text):
-        self.key, self.clauses, self.uses, self.facts, self.types = key, {}, [], [], set()
+        self.key, self.clauses, self.uses, self.facts = key, {}, [], []
+        terms = set()  # the names of the definitions that are no types and no proofs
         for piece in chunks(text):
             if piece.startswith("use "):
                 self.uses.append(" ".join(piece.split()))
@@ -334,13 +338,14 @@ class Module:
                     self.facts.append((m.group(1), m.group(2)))
             elif re.match(r"pub record |pub data |module |pub mod |unfolding ", piece):
                 continue
-            elif re.match(r"(?:pub )?\S+ : ", piece):
-                self.types.add(piece.split(" : ")[0].split()[-1])  # a proof
-            elif re.match(r"(?:unfoldable |abbrev )(?:pub )?(\S+) : ", piece):
-                if piece.endswith("Type 0"):
-                    self.types.add(piece.split(" : ")[0].split()[-1])
+            elif re.match(r"(?:pub )?\S+ :\s", piece):
+                continue
+            elif re.match(r"(?:unfoldable |abbrev )(?:pub )?\S+ :\s", piece):
+                if not piece.endswith("Type 0"):
+                    terms.add(re.split(r" :\s", piece)[0].split()[-1])
             else:
                 self.clauses.setdefault(piece.split()[0], []).append(piece)
+        self.clauses = {name: c for name, c in self.clauses.items() if name in terms}
 
 def arity_of(clauses):
     w = words_of(clauses[0])
@@ -356,7 +361,7 @@ class World:
     def __init__(self, texts):
         """texts: {(side, name): text}"""
         sys.setrecursionlimit(60000)
-        self.modules = {k: Module(k, t) for k, t in texts.items() if k[1] not in ("Lib", "Computing", "Claims")}
+        self.modules = {k: Module(k, t) for k, t in texts.items() if k[1] not in UNREAD}
         self.globals = {"LIBRARY": LIBRARY, "MAKE": MAKE, "Fn": Fn, "call": call, "stuck": stuck, "NAN": NAN, "quotient": quotient, "remainder": remainder}
         self.scopes, self.calls = {}, None
         for k, m in self.modules.items():
@@ -374,8 +379,7 @@ class World:
                 scope[name] = (self.python(k, name), arity_of(m.clauses[name]))
         for k, m in self.modules.items():
             for name in m.clauses:
-                if name not in m.types:
-                    self.define(k, name, m.clauses[name], k[0] == "proofs")
+                self.define(k, name, m.clauses[name], k[0] == "proofs")
 
     @staticmethod
     def python(key, name):

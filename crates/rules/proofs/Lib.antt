@@ -9,3 +9,5 @@ pub mod FileFacts
 pub mod Readings
 pub mod Borders
 pub mod BarLimit
+pub mod PinsCalls
+pub mod PinsFile
