@@ -10,7 +10,22 @@ use lib.Dec.{leb, ltb}
 use borrow.Author.Tests.{le-leb, lt-leb, le-ltb}
 use Rattle.rules.specs.Answer.{AnswerBy, NumberAt, refused, given}
 use Rattle.rules.specs.Text.{ascii}
-use Rattle.rules.specs.File.{Record, bar, recordBytes, fieldBytes, full, readRecord, Content, nothing, append, readFrom, readFile, printed, marksOf, marksOutput}
+use Rattle.rules.specs.File.{
+  Record,
+  bar,
+  recordBytes,
+  fieldBytes,
+  full,
+  readRecord,
+  Content,
+  nothing,
+  append,
+  readFrom,
+  readFile,
+  printed,
+  marksOf,
+  marksOutput,
+}
 use Rattle.rules.proofs.Computing.{everything}
 use Rattle.rules.proofs.Charts.{price}
 

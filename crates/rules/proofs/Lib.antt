@@ -9,5 +9,6 @@ pub mod FileFacts
 pub mod Readings
 pub mod Borders
 pub mod BarLimit
+pub mod Pins
 pub mod PinsCalls
 pub mod PinsFile
