@@ -77,7 +77,10 @@ def foldl(f, z, l):
     return z
 LIBRARY["foldl"] = foldl
 
-INFIX = {"||": (2, "r"), "&&": (3, "r"), "∷": (5, "r"), "++": (5, "r"), "+": (6, "l"), "-": (6, "l"), "*": (7, "l"), "/": (7, "l"), "%": (7, "l"), "^": (8, "r")}
+INFIX = {"||": (2, "r"), "&&": (3, "r"), "∷": (5, "r"), "++": (5, "r"), "+": (6, "l"), "-": (6, "l"), "*": (7, "l"), "/": (7, "l"),
+         "%": (7, "l"), "^": (8, "r")}
+PYTHON = {"||": "({} or {})", "&&": "({} and {})", "∷": "(({},) + {})", "++": "({} + {})", "+": "({} + {})", "-": "max(0, {} - {})",
+          "*": "({} * {})", "/": "quotient({}, {})", "%": "remainder({}, {})", "^": "({} ** {})"}
 STOP = {")", "]", "}", ";", "|", "↦", "in", "≡", "=", "→", ":"}
 
 class Parser:
@@ -120,8 +123,7 @@ class Parser:
             op = self.next()
             strength, side = INFIX[op]
             right = self.term(strength + (side == "l"))
-            left = {"||": "({} or {})", "&&": "({} and {})", "∷": "(({},) + {})", "++": "({} + {})", "-": "max(0, {} - {})", "/": "quotient({}, {})", "%": "remainder({}, {})",
-                    "^": "({} ** {})"}.get(op, "({} " + op + " {})").format(left, right)
+            left = PYTHON[op].format(left, right)
         return left
 
     def lam(self):

@@ -83,6 +83,8 @@ pub record Facts : Type 0 where
   pub stroke-starts-before : refusal small (addStroke (priced 0 8 10 (price 21) (price 20))) ≡ 14
   -- 6 is of the level above, and of its last record
   pub withdraw-under-nothing : refusal (levels (small .strokes) [] [] []) (withdraw 0) ≡ 0
+  pub withdraw-segment-under-nothing : refusal (levels (small .strokes) (small .segments) [] []) (withdraw 1) ≡ 0
+  pub withdraw-big-under-nothing : refusal (levels (small .strokes) (small .segments) (small .bigs) []) (withdraw 2) ≡ 0
   pub withdraw-segment-behind :
       refusal (levels (small .strokes) (one-each 0 (small .strokes)) (triple 1 0 0 ∷ []) (triple 1 0 0 ∷ [])) (withdraw 1)
       ≡ 0
@@ -131,6 +133,8 @@ facts =
       classes-of-segments = refl;
       stroke-starts-before = refl;
       withdraw-under-nothing = refl;
+      withdraw-segment-under-nothing = refl;
+      withdraw-big-under-nothing = refl;
       withdraw-segment-behind = refl;
       kept-first-before = refl;
       kept-members-fewer = refl;
