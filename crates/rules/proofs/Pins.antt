@@ -190,6 +190,10 @@ pub record Facts : Type 0 where
       labels (levels (strokesOf 0 (turn 0 1 ∷ turn 0 4 ∷ turn 0 0 ∷ turn 0 0 ∷ [])) (triple 0 0 0 ∷ triple 0 1 1 ∷ triple 1 2 2 ∷ []) (triple
       0 0 0 ∷ triple 0 1 1 ∷ triple 0 2 2 ∷ []) (triple 1 0 2 ∷ []))
       ≡ ascii "A" ∷ wider ∷ []
+  -- it starts after the zone ends
+  pub a-big-behind-the-zone-touches-nothing :
+      labels (levelled (stroke 0 (turn 0 1) (turn 1 0) ∷ stroke 1 (turn 2 0) (turn 3 1) ∷ []) (triple 1 0 0 ∷ []))
+      ≡ ascii "LA" ∷ []
   pub names-of-two-and-three-letters : map colName (52 ∷ 702 ∷ []) ≡ ascii "BA" ∷ ascii "AAA" ∷ []
 
 -- ---- proofs
@@ -229,5 +233,6 @@ facts =
       below-by-its-gg = refl;
       above-the-last-gg = refl;
       below-the-last-dd = refl;
+      a-big-behind-the-zone-touches-nothing = refl;
       names-of-two-and-three-letters = refl;
     }
