@@ -121,6 +121,6 @@ facts =
     record {
       places = readPlaces;
       next = readNext;
-      marks-2048 = rw (readPlaces 2048);
+      marks-2048 = ap printed (readPlaces 2048);
       marks-2049 = line (readFile 2048 (barFile 2049)) (readNext 2048);
     }
