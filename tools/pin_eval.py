@@ -52,11 +52,12 @@ LIBRARY = {
     "isPrice": is_price, "allPrices": lambda l: all(map(is_price, l)), "lower": lambda a, b: b if b.value() < a.value() else a,
     "higher": lambda a, b: b if a.value() < b.value() else a, "bytesOf": bytes_of, "ofBytes": lambda l: sum(b << 8 * i for i, b in enumerate(l)),
     "priceBytes": lambda x: bytes_of(8, x.bits),
+    "pointOf": lambda o: ("At", o[1]["end_bar"], o[1]["end_price"]) if o[0] == "some" else ("Nowhere",),
 }
-CONSTANTS = {"true": "True", "false": "False", "none": '("none",)', "zero": "0", "nan": "NAN", "binary64": "0", "[]": "()", "Missing": '("Missing",)',
-             "ST": '("ST",)', "SG": '("SG",)', "BG": '("BG",)', "SU": '("SU",)', "BR": '("BR",)'}
-MAKERS = {"Found": 1, "refused": 1, "given": 1, "ground.Zone": 1, "ground.Anchor": 1, "stroke": 1, "segment": 1, "big": 1, "superior": 1, "bar": 2,
-          "addStroke": 1, "addSegment": 1, "addBig": 1, "addSuperior": 1, "lengthen": 1, "withdraw": 1, "deriveBigs": 1, "deriveSuperiors": 1}
+# constructors without and with arguments; those of `specs` are added when it is read
+PLAIN = {"none", "Missing", "Nowhere"}
+MAKERS = {"Found": 1, "At": 2, "ground.Zone": 1, "ground.Anchor": 1}
+CONSTANTS = {"true": "True", "false": "False", "zero": "0", "nan": "NAN", "binary64": "0"}
 
 class Fn:
     """A function of n arguments, as a value."""
@@ -170,7 +171,7 @@ class Parser:
             self.next()
             return '""'
         raw = None if head in "([{" or head[0] in '"0123456789' else head
-        if raw is not None and raw not in self.locals and raw not in CONSTANTS:
+        if raw is not None and raw not in self.locals and raw not in CONSTANTS and raw not in PLAIN:
             self.next()
             first = None
         else:
@@ -202,7 +203,7 @@ class Parser:
             return f"LIBRARY[{name!r}]", LIBRARY[name].__code__.co_argcount
         if name in MAKERS:
             n = MAKERS[name]
-            return f"MAKE[{name!r}]", n
+            return f"make({name!r})", n
         raise Unsupported("no " + name)
 
     def fields(self, value):
@@ -231,6 +232,8 @@ class Parser:
             return self.locals[w]
         if w in CONSTANTS:
             return CONSTANTS[w]
+        if w in PLAIN:
+            return f"({w!r},)"
         if w == "text.[]":
             return '""'
         return self.named(w, [])
@@ -284,7 +287,7 @@ class Parser:
             tests.append(f'{of} != ""')
             self.pattern(f"{of}[0]", tests, binds, False)
             self.pattern(f"{of}[1:]", tests, binds, False)
-        elif w in ("none", "Missing", "ST", "SG", "BG", "SU", "BR"):
+        elif w in PLAIN:
             tests.append(f"{of}[0] == {w!r}")
         elif (w in MAKERS or w == "some") and whole and self.peek() not in (")", "↦", "∷", "="):
             tests.append(f"{of}[0] == {w!r}")
@@ -308,7 +311,8 @@ def remainder(a, b):
 def stuck():
     raise Unsupported("no clause matches")
 
-MAKE = {name: (lambda *a, name=name: (name,) + a) for name in MAKERS}
+def make(name):
+    return lambda *a: (name,) + a
 
 def words_of(text):
     return [w for w in TOKEN.findall(text) if not w.startswith("--")]
@@ -338,7 +342,13 @@ class Module:
             elif re.match(r"pub record (Facts|Runs|Numbers)\b", piece):
                 for m in re.finditer(r"\n  pub (\S+) :((?:.|\n)*?)(?=\n  pub |\Z)", piece):
                     self.facts.append((m.group(1), m.group(2)))
-            elif re.match(r"pub record |pub data |module |pub mod |unfolding ", piece):
+            elif piece.startswith("pub data "):
+                for name, kind in re.findall(r"\n  (\S+) : (.*)", piece):
+                    if "→" in kind:
+                        MAKERS[name] = kind.count("→")
+                    else:
+                        PLAIN.add(name)
+            elif re.match(r"pub record |module |pub mod |unfolding ", piece):
                 continue
             elif re.match(r"(?:pub )?\S+ :\s", piece):
                 continue
@@ -364,7 +374,7 @@ class World:
         """texts: {(side, name): text}"""
         sys.setrecursionlimit(60000)
         self.modules = {k: Module(k, t) for k, t in texts.items() if k[1] not in UNREAD}
-        self.globals = {"LIBRARY": LIBRARY, "MAKE": MAKE, "Fn": Fn, "call": call, "stuck": stuck, "NAN": NAN, "quotient": quotient, "remainder": remainder}
+        self.globals = {"LIBRARY": LIBRARY, "make": make, "Fn": Fn, "call": call, "stuck": stuck, "NAN": NAN, "quotient": quotient, "remainder": remainder}
         self.scopes, self.calls = {}, None
         for k, m in self.modules.items():
             self.scopes[k] = {}
@@ -381,7 +391,10 @@ class World:
                 scope[name] = (self.python(k, name), arity_of(m.clauses[name]))
         for k, m in self.modules.items():
             for name in m.clauses:
-                self.define(k, name, m.clauses[name], k[0] == "proofs")
+                try:
+                    self.define(k, name, m.clauses[name], k[0] == "proofs")
+                except Unsupported:
+                    continue  # what uses it is not evaluated
 
     @staticmethod
     def python(key, name):
@@ -450,12 +463,16 @@ class Evaluator:
         self.facts = []
         for key, module in self.world.modules.items():
             for name, text in module.facts:
-                sides = self.world.sides(key, text)
-                if sides is None:
-                    continue
                 touched.clear()
                 began = time.perf_counter()
-                if sides[0]() != sides[1]():
+                try:
+                    sides = self.world.sides(key, text)
+                    same = sides is None or sides[0]() == sides[1]()
+                except (Unsupported, NameError):
+                    sides, same = None, True
+                if sides is None:
+                    continue
+                if not same:
                     raise SystemExit(f"{key[1]}.{name} fails of the definitions as they stand, or is evaluated wrongly")
                 self.facts.append((time.perf_counter() - began, sides, frozenset(touched)))
         names.update(kept)
@@ -465,7 +482,9 @@ class Evaluator:
         """refused, ill-typed or passed: the definition `name`, with the file's text changed to this one"""
         key, names = ("specs", file), self.world.globals
         python = self.world.python(key, name)
-        kept = names[python]
+        kept = names.get(python)
+        if kept is None:
+            return "passed"
         try:
             self.world.define(key, name, Module(key, text).clauses[name])
             for _, (left, right), touched in self.facts:
@@ -474,7 +493,7 @@ class Evaluator:
             return "passed"
         except (Unsupported, KeyError, RecursionError):
             return "ill-typed"  # a name out of scope, a field that the record lacks, no end
-        except (TypeError, AttributeError, IndexError):
+        except (TypeError, AttributeError, IndexError, NameError):
             return "passed"  # the prover decides
         finally:
             names[python] = kept
