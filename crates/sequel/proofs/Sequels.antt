@@ -57,7 +57,7 @@ after log r h t n =
     let q = own (spelled log) (r .run) h in
     record {
       replayed = h;
-      marked =
+      as-promised =
           record {
             promise = p;
             third = p .third (barsIn (entriesOf (spelled log))) _ _ _ (t ∙ ap (thirdCall (r .run .chart .chart)) q);

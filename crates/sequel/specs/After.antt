@@ -16,8 +16,8 @@ abbrev pub entriesOf : AnswerBy ℕ (List Entry) → List Entry
 entriesOf (refused p) = []
 entriesOf (given es) = es
 
--- the calls ks are run, and what they leave has the marks over the highs and lows q
-pub record Marked (ks : List Call) (q : Quotes) (r : Sequel) : Type 0 where
+-- the calls ks are run, and every clause of demand 3 holds of the chart that they leave and of its marks over the highs and lows q
+pub record AsPromised (ks : List Call) (q : Quotes) (r : Sequel) : Type 0 where
   pub promise : Promise ks (take (r .run .count) (r .run .answers)) (r .run .chart)
   pub third : Thirds (levelsIn (r .run .chart)) q (r .thirds .number) (r .thirds .count) (r .thirds .rows)
   pub three-n : ThreeN (levelsIn (r .run .chart)) q (r .marks .number) (r .marks .count) (r .marks .rows)
@@ -25,4 +25,4 @@ pub record Marked (ks : List Call) (q : Quotes) (r : Sequel) : Type 0 where
 -- the log's own calls and bars
 pub record After (log : List ℕ) (r : Sequel) : Type 0 where
   pub replayed : Replays log (r .run)
-  pub marked : Marked (callsIn (entriesOf (spelled log))) (barsIn (entriesOf (spelled log))) r
+  pub as-promised : AsPromised (callsIn (entriesOf (spelled log))) (barsIn (entriesOf (spelled log))) r
