@@ -41,8 +41,8 @@ pub record Facts : Type 0 where
 
   -- its one big has three strokes
   pub members-are-bigs :
-      membersOf (levels (strokesOf 0 (turn 0 5 ∷ turn 1 2 ∷ turn 2 4 ∷ turn 3 0 ∷ [])) (triple 0 0 2 ∷ []) (triple 0 0 0 ∷ []) (triple 1 0 0 ∷
-      [])) (zone 0 0 3 0 5 0 5 0 1)
+      membersOf (levels (strokesOf 0 (turn 0 5 ∷ turn 1 2 ∷ turn 2 4 ∷ turn 3 0 ∷ [])) (triple 0 0 2 ∷ []) (triple 0 0 0 ∷ []) (triple 1 0 0 ∷ []))
+      (zone 0 0 3 0 5 0 5 0 1)
       ≡ 0 ∷ []
   -- as many as the zone has, from its first
   pub members-as-many : membersOf touching (zone 0 5 9 14 20 14 20 1 1) ≡ 1 ∷ []
@@ -53,18 +53,18 @@ pub record Facts : Type 0 where
       ≡ zone 0 0 3 16 20 14 24 0 2 ∷ []
   -- the third is above zg, though not above gg: it begins the next run
   pub a-longer-run-by-both-tests :
-      overlapZones (overBigs (stroke 0 (turn 0 4) (turn 0 0) ∷ stroke 1 (turn 0 0) (turn 0 4) ∷ stroke 0 (turn 0 0) (turn 0 1) ∷ []) (triple 0
-      0 0 ∷ triple 0 1 2 ∷ triple 0 0 1 ∷ []) (triple 1 0 2 ∷ []))
+      overlapZones (overBigs (stroke 0 (turn 0 4) (turn 0 0) ∷ stroke 1 (turn 0 0) (turn 0 4) ∷ stroke 0 (turn 0 0) (turn 0 1) ∷ []) (triple 0 0 0 ∷
+      triple 0 1 2 ∷ triple 0 0 1 ∷ []) (triple 1 0 2 ∷ []))
       ≡ zone 0 0 0 0 1 0 4 0 2 ∷ zone 0 0 0 4 4 4 4 2 1 ∷ []
   -- the third is below gg
   pub gg-widens-from-gg :
-      overlapZones (levels (stroke 1 (turn 0 0) (turn 0 4) ∷ stroke 1 (turn 0 1) (turn 0 2) ∷ stroke 1 (turn 0 1) (turn 0 0) ∷ []) (triple 0 0
-      0 ∷ triple 0 1 1 ∷ triple 0 2 2 ∷ []) (triple 0 0 0 ∷ triple 0 1 1 ∷ triple 0 2 2 ∷ triple 0 4 4 ∷ []) (triple 1 0 3 ∷ []))
+      overlapZones (levels (stroke 1 (turn 0 0) (turn 0 4) ∷ stroke 1 (turn 0 1) (turn 0 2) ∷ stroke 1 (turn 0 1) (turn 0 0) ∷ []) (triple 0 0 0 ∷
+      triple 0 1 1 ∷ triple 0 2 2 ∷ []) (triple 0 0 0 ∷ triple 0 1 1 ∷ triple 0 2 2 ∷ triple 0 4 4 ∷ []) (triple 1 0 3 ∷ []))
       ≡ zone 0 0 0 1 2 0 4 0 3 ∷ []
   -- the third is below zd, though not below dd
   pub a-longer-run-by-zd :
-      overlapZones (levels (stroke 0 (turn 0 4) (turn 0 0) ∷ stroke 1 (turn 0 0) (turn 0 0) ∷ stroke 1 (turn 0 0) (turn 0 1) ∷ []) (triple 1 0
-      2 ∷ triple 0 0 0 ∷ triple 0 1 1 ∷ []) (triple 0 0 0 ∷ triple 0 1 1 ∷ triple 0 2 2 ∷ []) (triple 1 0 2 ∷ []))
+      overlapZones (levels (stroke 0 (turn 0 4) (turn 0 0) ∷ stroke 1 (turn 0 0) (turn 0 0) ∷ stroke 1 (turn 0 0) (turn 0 1) ∷ []) (triple 1 0 2 ∷
+      triple 0 0 0 ∷ triple 0 1 1 ∷ []) (triple 0 0 0 ∷ triple 0 1 1 ∷ triple 0 2 2 ∷ []) (triple 1 0 2 ∷ []))
       ≡ zone 0 0 0 1 4 0 4 0 2 ∷ zone 0 0 0 0 0 0 0 2 1 ∷ []
   -- ---- third marks: the scan
 
@@ -74,32 +74,32 @@ pub record Facts : Type 0 where
       ≡ []
   -- the end point of the big that its last names, ranges over several segments
   pub a-reversal-by-its-end-bar :
-      thirdMarks (levels (stroke 1 (turn 0 0) (turn 0 0) ∷ stroke 0 (turn 6 0) (turn 0 0) ∷ stroke 1 (turn 0 0) (turn 0 0) ∷ stroke 0 (turn 0
-      1) (turn 4 1) ∷ []) (triple 1 1 3 ∷ triple 0 1 1 ∷ triple 1 2 3 ∷ []) (triple 1 0 0 ∷ triple 0 1 1 ∷ triple 1 1 1 ∷ triple 0 2 2 ∷ []) (triple
-      1 1 3 ∷ triple 0 2 3 ∷ triple 0 0 1 ∷ [])) (flat 5 0 2)
+      thirdMarks (levels (stroke 1 (turn 0 0) (turn 0 0) ∷ stroke 0 (turn 6 0) (turn 0 0) ∷ stroke 1 (turn 0 0) (turn 0 0) ∷
+      stroke 0 (turn 0 1) (turn 4 1) ∷ []) (triple 1 1 3 ∷ triple 0 1 1 ∷ triple 1 2 3 ∷ []) (triple 1 0 0 ∷ triple 0 1 1 ∷ triple 1 1 1 ∷
+      triple 0 2 2 ∷ []) (triple 1 1 3 ∷ triple 0 2 3 ∷ triple 0 0 1 ∷ [])) (flat 5 0 2)
       ≡ zoneThird true 4 2 1 ∷ []
   -- and not dd
   pub a-sell-beats-zd :
-      thirdMarks (overBigs (stroke 1 (turn 0 3) (turn 0 4) ∷ stroke 1 (turn 0 0) (turn 0 4) ∷ []) (triple 0 0 0 ∷ triple 1 0 0 ∷ triple 1 1 1
-      ∷ []) (triple 0 0 2 ∷ [])) (flat 1 1 4)
+      thirdMarks (overBigs (stroke 1 (turn 0 3) (turn 0 4) ∷ stroke 1 (turn 0 0) (turn 0 4) ∷ []) (triple 0 0 0 ∷ triple 1 0 0 ∷ triple 1 1 1 ∷ [])
+      (triple 0 0 2 ∷ [])) (flat 1 1 4)
       ≡ zoneThird false 0 1 3 ∷ []
   -- ---- anchors
 
   -- the first big has two segments, so that the bigs behind it have other numbers than their segments
   pub anchors-and-their-ends-are-bigs :
-      thirdMarks (overBigs (stroke 0 (turn 0 0) (turn 0 0) ∷ stroke 1 (turn 0 0) (turn 2 0) ∷ stroke 0 (turn 0 0) (turn 3 0) ∷ stroke 1 (turn
-      0 0) (turn 4 0) ∷ []) (triple 0 0 1 ∷ triple 1 2 2 ∷ triple 0 3 3 ∷ []) (triple 1 2 2 ∷ [])) (flat 5 0 1)
+      thirdMarks (overBigs (stroke 0 (turn 0 0) (turn 0 0) ∷ stroke 1 (turn 0 0) (turn 2 0) ∷ stroke 0 (turn 0 0) (turn 3 0) ∷
+      stroke 1 (turn 0 0) (turn 4 0) ∷ []) (triple 0 0 1 ∷ triple 1 2 2 ∷ triple 0 3 3 ∷ []) (triple 1 2 2 ∷ [])) (flat 5 0 1)
       ≡ anchorThird true 4 1 0 ∷ []
   -- ---- 3+N marks
 
   -- the second superior numbers bars that the first has numbered
   pub superiors-ascending :
-      nMarks (levelled (strokesOf 0 (turn 0 1 ∷ turn 1 0 ∷ turn 2 1 ∷ turn 3 0 ∷ turn 4 1 ∷ turn 5 0 ∷ turn 6 1 ∷ turn 7 0 ∷ turn 8 1 ∷ turn 9
-      0 ∷ [])) (triple 1 0 2 ∷ triple 1 0 0 ∷ [])) (quoted 10 9 [] 0 (turn 3 2 ∷ turn 7 2 ∷ []))
+      nMarks (levelled (strokesOf 0 (turn 0 1 ∷ turn 1 0 ∷ turn 2 1 ∷ turn 3 0 ∷ turn 4 1 ∷ turn 5 0 ∷ turn 6 1 ∷ turn 7 0 ∷ turn 8 1 ∷ turn 9 0
+      ∷ [])) (triple 1 0 2 ∷ triple 1 0 0 ∷ [])) (quoted 10 9 [] 0 (turn 3 2 ∷ turn 7 2 ∷ []))
       ≡ mark true 0 7 2 ∷ mark true 0 3 2 ∷ mark true 1 9 0 ∷ mark true 1 5 0 ∷ []
   pub superiors-before-anchors :
-      nMarks (levelled (stroke 0 (turn 0 0) (turn 1 0) ∷ stroke 0 (turn 1 0) (turn 2 0) ∷ stroke 0 (turn 2 0) (turn 3 0) ∷ stroke 1 (turn 3 0)
-      (turn 4 1) ∷ stroke 1 (turn 4 1) (turn 5 2) ∷ stroke 0 (turn 5 2) (turn 6 0) ∷ []) (triple 1 1 1 ∷ [])) (flat 7 9 2)
+      nMarks (levelled (stroke 0 (turn 0 0) (turn 1 0) ∷ stroke 0 (turn 1 0) (turn 2 0) ∷ stroke 0 (turn 2 0) (turn 3 0) ∷
+      stroke 1 (turn 3 0) (turn 4 1) ∷ stroke 1 (turn 4 1) (turn 5 2) ∷ stroke 0 (turn 5 2) (turn 6 0) ∷ []) (triple 1 1 1 ∷ [])) (flat 7 9 2)
       ≡ mark true 0 5 2 ∷ mark true 0 2 2 ∷ mark true 1 6 2 ∷ mark true 1 3 2 ∷ []
   -- ---- classes
 
@@ -114,8 +114,8 @@ pub record Facts : Type 0 where
       ≡ []
   -- and not up to its end
   pub extended-up-to-the-next-class-first :
-      bigClasses false (levelled (stroke 1 (turn 0 0) (turn 1 0) ∷ stroke 1 (turn 1 3) (turn 2 3) ∷ stroke 0 (turn 2 1) (turn 3 1) ∷ stroke 1
-      (turn 3 4) (turn 4 3) ∷ stroke 0 (turn 4 0) (turn 5 0) ∷ stroke 0 (turn 5 2) (turn 6 1) ∷ []) [])
+      bigClasses false (levelled (stroke 1 (turn 0 0) (turn 1 0) ∷ stroke 1 (turn 1 3) (turn 2 3) ∷ stroke 0 (turn 2 1) (turn 3 1) ∷
+      stroke 1 (turn 3 4) (turn 4 3) ∷ stroke 0 (turn 4 0) (turn 5 0) ∷ stroke 0 (turn 5 2) (turn 6 1) ∷ []) [])
       ≡ class 0 1 1 false false false ∷ class 2 4 0 false false false ∷ []
   -- items inside a class, and at its end, are not tried
   pub the-walk-goes-on-behind-the-class :
@@ -124,9 +124,9 @@ pub record Facts : Type 0 where
       ≡ class 1 4 1 false false false ∷ []
   -- segments of several strokes, and the walk where no class begins
   pub bigs-by-their-first-and-last-stroke :
-      bigClasses false (levels (stroke 0 (turn 0 1) (turn 0 1) ∷ stroke 1 (turn 0 0) (turn 0 1) ∷ stroke 1 (turn 0 0) (turn 0 0) ∷ []) (triple
-      0 0 1 ∷ triple 1 2 2 ∷ triple 0 0 0 ∷ triple 1 2 2 ∷ []) (triple 0 0 0 ∷ triple 0 0 0 ∷ triple 0 0 0 ∷ triple 0 1 1 ∷ triple 0 2 2 ∷ triple 0
-      3 3 ∷ triple 1 3 3 ∷ []) [])
+      bigClasses false (levels (stroke 0 (turn 0 1) (turn 0 1) ∷ stroke 1 (turn 0 0) (turn 0 1) ∷ stroke 1 (turn 0 0) (turn 0 0) ∷ []) (triple 0 0 1
+      ∷ triple 1 2 2 ∷ triple 0 0 0 ∷ triple 1 2 2 ∷ []) (triple 0 0 0 ∷ triple 0 0 0 ∷ triple 0 0 0 ∷ triple 0 1 1 ∷ triple 0 2 2 ∷ triple 0 3 3 ∷
+      triple 1 3 3 ∷ []) [])
       ≡ class 2 5 0 false true false ∷ []
   pub extension-by-direction-and-end-price :
       segmentClasses false (overBigs (stroke 1 (turn 0 0) (turn 0 0) ∷ stroke 1 (turn 0 3) (turn 0 1) ∷ stroke 0 (turn 0 0) (turn 0 2) ∷
@@ -137,31 +137,31 @@ pub record Facts : Type 0 where
       (triple 0 0 0 ∷ triple 0 1 1 ∷ triple 0 2 2 ∷ []) [] [])
       ≡ class 0 1 0 false false false ∷ []
   pub extension-keeps-case-and-adjacency :
-      segmentClasses true (levels (stroke 1 (turn 0 1) (turn 0 0) ∷ stroke 0 (turn 0 2) (turn 0 1) ∷ stroke 1 (turn 0 0) (turn 0 0) ∷ stroke 0
-      (turn 0 0) (turn 0 1) ∷ []) (triple 1 0 0 ∷ triple 1 1 1 ∷ triple 0 2 2 ∷ triple 1 3 3 ∷ triple 1 3 3 ∷ []) [] [])
+      segmentClasses true (levels (stroke 1 (turn 0 1) (turn 0 0) ∷ stroke 0 (turn 0 2) (turn 0 1) ∷ stroke 1 (turn 0 0) (turn 0 0) ∷
+      stroke 0 (turn 0 0) (turn 0 1) ∷ []) (triple 1 0 0 ∷ triple 1 1 1 ∷ triple 0 2 2 ∷ triple 1 3 3 ∷ triple 1 3 3 ∷ []) [] [])
       ≡ class 0 1 1 false false false ∷ class 2 2 0 true false true ∷ class 3 4 1 true true false ∷ []
   -- ---- first marks
 
   -- with the byte off, a class that is adjacent
   pub not-by-case-3-marks-nothing :
-      firstMarks false true (levelled (strokesOf 0 (turn 0 10 ∷ turn 4 6 ∷ turn 8 8 ∷ turn 12 4 ∷ turn 16 12 ∷ turn 20 9 ∷ turn 24 14 ∷ turn
-      28 11 ∷ turn 32 13 ∷ turn 36 10 ∷ [])) [])
+      firstMarks false true (levelled (strokesOf 0 (turn 0 10 ∷ turn 4 6 ∷ turn 8 8 ∷ turn 12 4 ∷ turn 16 12 ∷ turn 20 9 ∷ turn 24 14 ∷ turn 28 11 ∷
+      turn 32 13 ∷ turn 36 10 ∷ [])) [])
       ≡ []
   -- q is a big of three segments
   pub q-starts-at-its-first-stroke :
-      firstMarks true true (overBigs (strokesOf 0 (turn 0 10 ∷ turn 4 6 ∷ turn 8 8 ∷ turn 12 4 ∷ turn 16 9 ∷ turn 20 8 ∷ turn 24 12 ∷ turn 28
-      9 ∷ turn 32 11 ∷ turn 36 7 ∷ [])) (triple 0 0 0 ∷ triple 1 1 1 ∷ triple 0 2 2 ∷ triple 1 3 5 ∷ triple 0 6 6 ∷ triple 1 7 7 ∷ triple 0 8 8 ∷
-      []) [])
+      firstMarks true true (overBigs (strokesOf 0 (turn 0 10 ∷ turn 4 6 ∷ turn 8 8 ∷ turn 12 4 ∷ turn 16 9 ∷ turn 20 8 ∷ turn 24 12 ∷ turn 28 9 ∷
+      turn 32 11 ∷ turn 36 7 ∷ [])) (triple 0 0 0 ∷ triple 1 1 1 ∷ triple 0 2 2 ∷ triple 1 3 5 ∷ triple 0 6 6 ∷ triple 1 7 7 ∷ triple 0 8 8 ∷ [])
+      [])
       ≡ firstMark true 36 7 ∷ []
   -- a big of three segments stands before it
   pub q-is-one-of-the-bigs :
-      firstMarks true true (overBigs (strokesOf 0 (turn 0 10 ∷ turn 4 7 ∷ turn 8 8 ∷ turn 12 6 ∷ turn 16 8 ∷ turn 20 4 ∷ turn 24 12 ∷ turn 28
-      9 ∷ turn 32 11 ∷ turn 36 5 ∷ [])) (triple 0 0 2 ∷ triple 1 3 3 ∷ triple 0 4 4 ∷ triple 1 5 5 ∷ triple 0 6 6 ∷ triple 1 7 7 ∷ triple 0 8 8 ∷
-      []) [])
+      firstMarks true true (overBigs (strokesOf 0 (turn 0 10 ∷ turn 4 7 ∷ turn 8 8 ∷ turn 12 6 ∷ turn 16 8 ∷ turn 20 4 ∷ turn 24 12 ∷ turn 28 9 ∷
+      turn 32 11 ∷ turn 36 5 ∷ [])) (triple 0 0 2 ∷ triple 1 3 3 ∷ triple 0 4 4 ∷ triple 1 5 5 ∷ triple 0 6 6 ∷ triple 1 7 7 ∷ triple 0 8 8 ∷ [])
+      [])
       ≡ firstMark true 36 5 ∷ []
   pub n-may-be-extended :
-      firstMarks true true (levelled (strokesOf 0 (turn 0 10 ∷ turn 4 6 ∷ turn 8 8 ∷ turn 12 4 ∷ turn 16 12 ∷ turn 20 9 ∷ turn 24 11 ∷ turn 28
-      7 ∷ turn 32 8 ∷ turn 36 5 ∷ [])) [])
+      firstMarks true true (levelled (strokesOf 0 (turn 0 10 ∷ turn 4 6 ∷ turn 8 8 ∷ turn 12 4 ∷ turn 16 12 ∷ turn 20 9 ∷ turn 24 11 ∷ turn 28 7 ∷
+      turn 32 8 ∷ turn 36 5 ∷ [])) [])
       ≡ firstMark true 36 5 ∷ []
   -- n ends in a segment of two strokes
   pub n-ends-at-its-last-stroke :
@@ -177,8 +177,9 @@ pub record Facts : Type 0 where
       ≡ ascii "A" ∷ (ascii "L" ++ wider) ∷ []
   -- and not by its zg
   pub below-by-its-gg :
-      labels (levels (stroke 1 (turn 0 3) (turn 0 0) ∷ stroke 0 (turn 0 0) (turn 0 4) ∷ stroke 1 (turn 0 3) (turn 0 0) ∷ stroke 1 (turn 0 0)
-      (turn 0 1) ∷ []) (triple 1 0 1 ∷ triple 1 2 2 ∷ triple 1 3 3 ∷ []) (triple 1 0 0 ∷ triple 1 1 1 ∷ triple 1 2 2 ∷ []) (triple 0 0 2 ∷ []))
+      labels (levels (stroke 1 (turn 0 3) (turn 0 0) ∷ stroke 0 (turn 0 0) (turn 0 4) ∷ stroke 1 (turn 0 3) (turn 0 0) ∷
+      stroke 1 (turn 0 0) (turn 0 1) ∷ []) (triple 1 0 1 ∷ triple 1 2 2 ∷ triple 1 3 3 ∷ []) (triple 1 0 0 ∷ triple 1 1 1 ∷ triple 1 2 2 ∷ [])
+      (triple 0 0 2 ∷ []))
       ≡ ascii "A" ∷ wider ∷ []
   -- and not above its zg
   pub above-the-last-gg :
@@ -187,8 +188,8 @@ pub record Facts : Type 0 where
       ≡ ascii "A" ∷ wider ∷ []
   -- and not below its zd
   pub below-the-last-dd :
-      labels (levels (strokesOf 0 (turn 0 1 ∷ turn 0 4 ∷ turn 0 0 ∷ turn 0 0 ∷ [])) (triple 0 0 0 ∷ triple 0 1 1 ∷ triple 1 2 2 ∷ []) (triple
-      0 0 0 ∷ triple 0 1 1 ∷ triple 0 2 2 ∷ []) (triple 1 0 2 ∷ []))
+      labels (levels (strokesOf 0 (turn 0 1 ∷ turn 0 4 ∷ turn 0 0 ∷ turn 0 0 ∷ [])) (triple 0 0 0 ∷ triple 0 1 1 ∷ triple 1 2 2 ∷ []) (triple 0 0 0
+      ∷ triple 0 1 1 ∷ triple 0 2 2 ∷ []) (triple 1 0 2 ∷ []))
       ≡ ascii "A" ∷ wider ∷ []
   -- it starts after the zone ends
   pub a-big-behind-the-zone-touches-nothing :
