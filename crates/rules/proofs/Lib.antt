@@ -1,4 +1,4 @@
--- Worked facts about the definitions, each by computation.
+-- Worked facts about the definitions, by computation; the limits of bars and of kept zones are laws for every number.
 pub mod Computing
 pub mod Charts
 pub mod ChartK
