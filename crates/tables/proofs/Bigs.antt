@@ -1,0 +1,154 @@
+-- The rows of bigs: what is read in one, what is put into one, and the big that it stands for. Assumes nothing.
+use Prim.Native.Nat.{ℕ, _+_, _≤_, _<_}
+use native.Mathlib.Omega.{arith}
+use native.Mathlib.Numerals.{add-one}
+use mathlib.Core.Path.{_≡_, refl, sym, ap, _∙_}
+use mathlib.Core.List.{List, [], _∷_, _++_, map, map-map}
+use lib.ListN.{length, take, getD, set}
+use lib.Seq.{take-suc, length-take-le}
+use lib.Dec.{eqb}
+use lib.Ieee.{Float, nan}
+use borrow.Author.Tests.{eq-eqb, ne-eqb, lt-ltb, le-ltb}
+use Rattle.chart.specs.declared.Stroke.{Stroke}
+use Rattle.chart.specs.declared.Triple.{Triple}
+use Rattle.chart.specs.declared.Span.{Span}
+use Rattle.chart.specs.declared.Range.{Range}
+use Rattle.chart.specs.declared.Range.the-variants.{Found, Missing}
+use Rattle.chart.specs.declared.EndPoint.{EndPoint}
+use Rattle.chart.specs.declared.EndPoint.the-variants.{At, Nowhere}
+use Rattle.chart.specs.declared.Chart.{Chart}
+use Rattle.chart.specs.Table.{pointOf}
+use Rattle.rules.specs.Records.{Levels, levelsOf}
+use Rattle.rules.specs.Ranges.{rangeOf, lastStroke}
+use Rattle.laws.proofs.Lists.{map-append}
+use Rattle.levels.proofs.Read.{no-triple, no-stroke, reached}
+use Rattle.tables.specs.Read.{lastFrom}
+use Rattle.tables.specs.Rows.{Wide, rowsIn, Puts}
+use Rattle.tables.specs.Tables.{Big, bigOf, rangeIn, pointIn, bigIn, Bigs, Member, memberIn, memberOf, Members, pointIf, PutsBig}
+use Rattle.tables.proofs.Rows.{puts, rows-map, row-is}
+
+-- ---- what is read
+
+module _ (row : List ℕ) (prices : List Float) where
+  pub range-none : getD row 1 0 ≡ 0 → Missing ≡ rangeIn row prices
+  unfolding rangeIn
+  range-none e = rw (eq-eqb _ _ e)
+
+  pub range-some :
+      (getD row 1 0 ≡ 0 → ⊥)
+      → Found (record { low = getD prices 0 nan; high = getD prices 1 nan; «start_bar» = getD row 2 0; «end_bar» = getD row 3 0 }) ≡ rangeIn row prices
+  unfolding rangeIn
+  range-some n = rw (ne-eqb _ _ n)
+
+  pub point-none : getD row 4 0 ≡ 0 → Nowhere ≡ pointIn row prices
+  unfolding pointIn
+  point-none e = rw (eq-eqb _ _ e)
+
+  pub point-some : (getD row 4 0 ≡ 0 → ⊥) → At (getD row 5 0) (getD prices 2 nan) ≡ pointIn row prices
+  unfolding pointIn
+  point-some n = rw (ne-eqb _ _ n)
+
+-- ---- the end point of a big, read at safe indices
+
+module _ (m n : ℕ) (b z : Triple) (e : Stroke) where
+  pub end-no-segment : m ≤ b .last → pointIf 0 e ≡ pointOf (lastFrom m n b z e)
+  unfolding lastFrom pointIf
+  end-no-segment h = rw (le-ltb _ _ h)
+
+  pub end-no-stroke : b .last < m → n ≤ z .last → pointIf 0 e ≡ pointOf (lastFrom m n b z e)
+  unfolding lastFrom pointIf
+  end-no-stroke h k = rw (lt-ltb _ _ h, le-ltb _ _ k)
+
+  pub end-there : b .last < m → z .last < n → pointIf 1 e ≡ pointOf (lastFrom m n b z e)
+  unfolding lastFrom pointIf
+  end-there h k = rw (lt-ltb _ _ h, lt-ltb _ _ k)
+
+module _ (c : Chart) (b : Triple) (j q : ℕ) where
+  abbrev z : Triple
+  z = getD (c .segments) j no-triple
+
+  -- it is the big's own
+  pub last-read :
+      c .«segment_count» ≤ length (c .segments) → c .«stroke_count» ≤ length (c .strokes)
+      → (b .last < c .«segment_count» → j ≡ b .last) → (z .last < c .«stroke_count» → q ≡ z .last)
+      → lastFrom (c .«segment_count») (c .«stroke_count») b z (getD (c .strokes) q no-stroke) ≡ lastStroke (levelsOf c) b
+  unfolding lastFrom lastStroke levelsOf
+  last-read ls lt wj wq =
+      reached (c .«segment_count») (c .«stroke_count») (b .last) j q (c .segments) (c .strokes) (λ (t : Triple). t .last) ls lt wj wq
+
+-- ---- what is put
+
+module _ (k way there : ℕ) (range : Range) (e : Stroke) (bars : List (List ℕ)) (prices : List (List Float)) (h : k < 256) (w : Wide bars prices) where
+  pub puts-missing :
+      (x y : ℕ) (low high : Float) → range ≡ Missing
+      → PutsBig k way range (pointIf there e) bars prices
+      (set bars k (way ∷ 0 ∷ x ∷ y ∷ there ∷ e .«end_bar» ∷ [])) (set prices k (low ∷ high ∷ e .«end_price» ∷ []))
+  unfolding bigIn rangeIn pointIn pointIf
+  puts-missing x y low high m = puts bigIn k _ bars prices _ _ h w (rw m)
+
+  pub puts-found :
+      (s : Span) → range ≡ Found s
+      → PutsBig k way range (pointIf there e) bars prices
+      (set bars k (way ∷ 1 ∷ s .«start_bar» ∷ s .«end_bar» ∷ there ∷ e .«end_bar» ∷ [])) (set prices k (s .low ∷ s .high ∷ e .«end_price» ∷ []))
+  unfolding bigIn rangeIn pointIn pointIf
+  puts-found s f = puts bigIn k _ bars prices _ _ h w (rw f)
+
+-- ---- the bigs of a level
+
+-- one more
+pub bigs-more :
+    (c : Levels) (k : ℕ) (bigs : List Triple) (bars : List (List ℕ)) (prices : List (List Float)) (bars' : List (List ℕ)) (prices' : List (List Float)) (way : ℕ) (range : Range) (point : EndPoint)
+    → k < length bigs → getD bigs k no-triple .direction ≡ way → range ≡ rangeOf c (getD bigs k no-triple) → point ≡ pointOf (lastStroke c (getD bigs k no-triple))
+    → rowsIn bigIn k bars prices ≡ map (bigOf c) (take k bigs) → PutsBig k way range point bars prices bars' prices'
+    → rowsIn bigIn (k + 1) bars' prices' ≡ map (bigOf c) (take (k + 1) bigs)
+unfolding bigOf
+bigs-more c k bigs bars prices bars' prices' way range point h w r p done put =
+    rw (put .are, done, add-one k, take-suc bigs k no-triple h, map-append (bigOf c) (take k bigs) (getD bigs k no-triple ∷ []), ← w, r, p)
+
+-- all of them
+pub bigs-all :
+    (chart : Chart) (k : ℕ) (bars : List (List ℕ)) (prices : List (List Float)) → length (chart .bigs) ≡ 256 → chart .«big_count» ≤ 256
+    → chart .«big_count» ≤ k → k ≤ chart .«big_count» → rowsIn bigIn k bars prices ≡ map (bigOf (levelsOf chart)) (take k (chart .bigs))
+    → Bigs (levelsOf chart) (chart .«big_count») bars prices
+unfolding levelsOf
+bigs-all chart k bars prices long few over most done =
+    let same : k ≡ chart .«big_count» = omega arith in
+    record {
+      count = length-take-le (chart .«big_count») (chart .bigs) (omega arith);
+      are = rw same at done;
+    }
+
+-- what the tables say of record k of a level
+module _
+    (range : Triple → Range) (level : List Triple) (m : ℕ) (bars : List (List ℕ)) (prices : List (List Float))
+    (t : Members range level m bars prices) (k : ℕ) (h : k < m)
+  where
+    member-at : memberIn (getD bars k []) (getD prices k []) ≡ memberOf range (getD level k no-triple)
+    member-at = row-is memberIn (memberOf range) m bars prices [] [] level no-triple (t .count) (t .are) k h
+
+    pub member-way : getD (getD bars k []) 0 0 ≡ getD level k no-triple .direction
+    unfolding memberIn memberOf
+    member-way = ap (λ (b : Member). b .way) member-at
+
+    pub member-range : rangeIn (getD bars k []) (getD prices k []) ≡ range (getD level k no-triple)
+    unfolding memberIn memberOf
+    member-range = ap (λ (b : Member). b .range) member-at
+
+-- what they say of big k
+module _ (c : Levels) (m : ℕ) (bars : List (List ℕ)) (prices : List (List Float)) (t : Bigs c m bars prices) where
+  pub bigs-members : Members (rangeOf c) (c .bigs) m bars prices
+  unfolding bigIn bigOf memberIn memberOf
+  bigs-members =
+      let less : Big → Member = λ b. record { way = b .way; range = b .range } in
+      record { count = t .count; are = rows-map bigIn less m bars prices ∙ ap (map less) (t .are) ∙ map-map less (bigOf c) (c .bigs) }
+
+  module _ (k : ℕ) (h : k < m) where
+    pub way-is : getD (getD bars k []) 0 0 ≡ getD (c .bigs) k no-triple .direction
+    way-is = member-way (rangeOf c) (c .bigs) m bars prices bigs-members k h
+
+    pub range-is : rangeIn (getD bars k []) (getD prices k []) ≡ rangeOf c (getD (c .bigs) k no-triple)
+    range-is = member-range (rangeOf c) (c .bigs) m bars prices bigs-members k h
+
+    pub point-is : pointIn (getD bars k []) (getD prices k []) ≡ pointOf (lastStroke c (getD (c .bigs) k no-triple))
+    unfolding bigIn bigOf
+    point-is = ap (λ (b : Big). b .point) (row-is bigIn (bigOf c) m bars prices [] [] (c .bigs) no-triple (t .count) (t .are) k h)

@@ -1,0 +1,5 @@
+pub mod Rows
+pub mod Bigs
+pub mod Right
+pub mod Sups
+pub mod Zones
