@@ -1,0 +1,143 @@
+// Hits, the ends of bigs, and the anchors with their prices C: what third and 3+N marks have in common beside the scan of a zone's pairs.
+use chart::EndPoint;
+use tables::Counts;
+ghost use mathlib.Core.Path.{_≡_};
+ghost use mathlib.Core.Bool.{not, cond, Bool·beq};
+ghost use mathlib.Core.List.{[], _∷_};
+ghost use Prim.Native.Nat.{_≤_, _<_};
+ghost use lib.ListN.{length, take, getD};
+ghost use lib.Dec.{ltb};
+ghost use lib.Ieee.{lt, nan};
+ghost use Rattle.rules.specs.Lists.{find, isNone, collect};
+ghost use Rattle.rules.specs.Records.{isUp, Levels};
+ghost use Rattle.rules.specs.Ranges.{lastStroke};
+ghost use Rattle.rules.specs.Marks.{quote, beats};
+ghost use Rattle.tables.specs.Tables.{Bigs, Sups};
+ghost use Rattle.mark_hits.specs.Found.{quotesRefusal, quoteOf, hitBar, LentPrice};
+ghost use Rattle.mark_hits.specs.Anchors.{NextEnd, LaterEnd, Anchoring, anchorIn, Anchors};
+
+// ---- lent prices
+
+// The lent price of a side at a bar, where the bar is inside the slice.
+pub enum Quote {
+    At(f64),
+    Outside,
+}
+
+// The low for buys, the high for sells.
+pub fn quote_at(highs: &[f64], lows: &[f64], buy: bool, bar: usize) -> Quote
+    ensures { λ r. ⌜ quoteOf r ≡ quote (record { highs = now (highs .entry); lows = now (lows .entry) }) buy bar ⌝ }
+{
+    if buy {
+        if lows.len() <= bar {
+            return Quote::Outside;
+        }
+        return Quote::At(lows[bar]);
+    }
+    if highs.len() <= bar {
+        return Quote::Outside;
+    }
+    Quote::At(highs[bar])
+}
+
+// 8 slices of unequal length or above 65,536; 1 in either slice.
+pub fn quotes_refusal(highs: &[f64], lows: &[f64]) -> u8
+    ensures { λ r. ⌜ r ≡ quotesRefusal (record { highs = now (highs .entry); lows = now (lows .entry) }) 0 ⌝ }
+{
+    if highs.len() != lows.len() {
+        return 8;
+    }
+    if 65536 < highs.len() {
+        return 8;
+    }
+    if !price::both_prices(highs, lows) {
+        return 1;
+    }
+    0
+}
+
+// ---- hits
+
+// A hit: its bar, and the lent price there.
+pub enum Hit {
+    At(usize, f64),
+    Nothing,
+}
+
+// Whether a lent price is beyond p: above for buys, below for sells.
+fn beyond(buy: bool, x: f64, p: f64) -> bool
+    ensures { λ r. ⌜ r ≡ cond buy (lt p x) (lt x p) ⌝ }
+{
+    if buy {
+        return p < x;
+    }
+    x < p
+}
+
+// The hit at a bar, if it is one. A bar outside the slice is no hit.
+pub fn hit_at(highs: &[f64], lows: &[f64], buy: bool, p: f64, bar: usize) -> Hit
+    ensures { λ r. ⌜ LentPrice (record { highs = now (highs .entry); lows = now (lows .entry) }) buy r ⌝ }
+    ensures { λ r. ⌜ find (beats (record { highs = now (highs .entry); lows = now (lows .entry) }) buy p) (bar ∷ []) ≡ hitBar r ⌝ }
+{
+    let quote = quote_at(highs, lows, buy, bar);
+    let Quote::At(x) = quote else {
+        return Hit::Nothing;
+    };
+    if beyond(buy, x, p) {
+        return Hit::At(bar, x);
+    }
+    Hit::Nothing
+}
+
+pub fn is_hit(hit: Hit) -> bool
+    ensures { λ r. ⌜ r ≡ not (isNone (hitBar hit)) ⌝ }
+{
+    let Hit::At(bar, x) = hit else {
+        return false;
+    };
+    true
+}
+
+// ---- ends of bigs
+
+// The next big of a direction that ends behind a bar: the place behind it, its end bar and its end price.
+pub enum End {
+    At(usize, u16, f64),
+    Over,
+}
+
+// Whether a direction is this one.
+fn is_way(way: u16, up: bool) -> bool
+    ensures { λ r. ⌜ r ≡ Bool·beq (isUp way) up ⌝ }
+{
+    (way == 1) == up
+}
+
+// Whether a bar is behind another.
+fn is_behind(after: u16, bar: u16) -> bool
+    ensures { λ r. ⌜ (r ≡ ltb after bar) × (bar < 0x1_0000) ⌝ }
+{
+    after < bar
+}
+
+// ---- anchors
+
+// The anchors' side: how many bigs there are, how many of the first are looked at for anchors, and whether their marks are buys.
+pub struct Side {
+    pub bigs: usize,
+    pub anchors: usize,
+    pub buy: bool,
+}
+
+// The price C of an anchor, where there is one.
+pub enum Price {
+    At(f64),
+    Nowhere,
+}
+
+// An anchor: its end bar, a place before which no big ends behind that, and its price C.
+pub struct Anchor {
+    pub bar: u32,
+    pub from: u32,
+    pub price: Price,
+}

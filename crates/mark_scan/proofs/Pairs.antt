@@ -1,0 +1,158 @@
+-- The pairs from big k on: one way through next_pair each. Assumes nothing.
+use Prim.Native.Nat.{ℕ, zero, suc, _+_, _-_, _<_, _≤_, min}
+use native.Mathlib.Omega.{arith}
+use native.Mathlib.Numerals.{add-one}
+use mathlib.Core.Path.{_≡_, refl, sym, _∙_}
+use mathlib.Core.Bool.{Bool, true, false}
+use mathlib.Core.List.{List, [], _∷_}
+use lib.ListN.{length, drop, getD, length-drop, drop-of-length-le}
+use lib.Seq.{drop-cons}
+use lib.Ieee.{Float}
+use lib.Dec.{leb}
+use borrow.Author.Tests.{eq-eqb, ne-eqb, le-leb, lt-leb, leb-true, leb-false}
+use Rattle.chart.specs.declared.Triple.{Triple}
+use Rattle.chart.specs.declared.Span.{Span}
+use Rattle.chart.specs.declared.Range.the-variants.{Found, Missing}
+use Rattle.rules.specs.Records.{Levels}
+use Rattle.rules.specs.Ranges.{rangeOf}
+use Rattle.rules.specs.Marks.{leaving, pairEnds}
+use Rattle.levels.proofs.Read.{no-triple}
+use Rattle.tables.specs.Tables.{Bigs, rangeIn}
+use Rattle.tables.proofs.Bigs.{way-is, range-is}
+use Rattle.mark_scan.specs.Scan.{Limits}
+
+-- ---- two bigs and those behind them
+
+module _ (c : Levels) (stop : ℕ → Bool) (d : ℕ) (k n : Triple) (bs : List Triple) where
+  pair-missing : rangeOf c n ≡ Missing → pairEnds c stop d (k ∷ n ∷ bs) ≡ []
+  unfolding pairEnds
+  pair-missing e = rw (pairEnds, e)
+
+  module _ (s : Span) (found : rangeOf c n ≡ Found s) where
+    pair-over : stop (s .«end_bar») ≡ true → pairEnds c stop d (k ∷ n ∷ bs) ≡ []
+    unfolding pairEnds
+    pair-over h = rw (pairEnds, found, h)
+
+    pair-at : stop (s .«end_bar») ≡ false → k .direction ≡ d → pairEnds c stop d (k ∷ n ∷ bs) ≡ s .«end_bar» ∷ pairEnds c stop d (n ∷ bs)
+    unfolding pairEnds
+    pair-at h w = rw (pairEnds, found, h, eq-eqb _ _ w)
+
+    pair-skip : stop (s .«end_bar») ≡ false → (k .direction ≡ d → ⊥) → pairEnds c stop d (k ∷ n ∷ bs) ≡ pairEnds c stop d (n ∷ bs)
+    unfolding pairEnds
+    pair-skip h w = rw (pairEnds, found, h, ne-eqb _ _ w)
+
+pair-none : (c : Levels) (stop : ℕ → Bool) (d : ℕ) (bs : List Triple) → length bs ≤ 1 → pairEnds c stop d bs ≡ []
+unfolding pairEnds
+pair-none c stop d [] h = refl
+pair-none c stop d (k ∷ []) h = refl
+pair-none c stop d (k ∷ n ∷ bs) h = absurd (omega arith)
+
+-- ---- the pairs from big k on are left
+
+module _
+    (m : ℕ) (bars : List (List ℕ)) (prices : List (List Float)) (d limit k : ℕ) (c : Levels) (stop : ℕ → Bool) (t : Bigs c m bars prices)
+    (limits : Limits limit stop) (goal : List ℕ) (left : goal ≡ pairEnds c stop d (drop k (c .bigs)))
+  where
+    pub pairs-none : m ≤ k + 1 → goal ≡ []
+    pairs-none h = left ∙ pair-none c stop d (drop k (c .bigs)) (omega (arith, length-drop k (c .bigs), t .count))
+
+    module _ (more : k + 1 < m) where
+      abbrev here : Triple
+      here = getD (c .bigs) k no-triple
+
+      abbrev next : Triple
+      next = getD (c .bigs) (k + 1) no-triple
+
+      abbrev rest : List Triple
+      rest = drop (k + 1 + 1) (c .bigs)
+
+      behind : drop (k + 1) (c .bigs) ≡ next ∷ rest
+      behind = rw (add-one (k + 1)) (drop-cons (c .bigs) (k + 1) no-triple (omega (arith, t .count)))
+
+      both : goal ≡ pairEnds c stop d (here ∷ next ∷ rest)
+      both = rw (← behind, add-one k, ← drop-cons (c .bigs) k no-triple (omega (arith, t .count))) left
+
+      pub pairs-missing : rangeIn (getD bars (k + 1) []) (getD prices (k + 1) []) ≡ Missing → goal ≡ []
+      pairs-missing e = both ∙ pair-missing c stop d here next rest (sym (range-is c m bars prices t (k + 1) more) ∙ e)
+
+      module _ (s : Span) (found : rangeIn (getD bars (k + 1) []) (getD prices (k + 1) []) ≡ Found s) (small : s .«end_bar» < 0x1_0000) where
+        own : rangeOf c next ≡ Found s
+        own = sym (range-is c m bars prices t (k + 1) more) ∙ found
+
+        way : getD (getD bars k []) 0 0 ≡ here .direction
+        way = way-is c m bars prices t k (omega arith)
+
+        pub pairs-over : limit ≤ s .«end_bar» → goal ≡ []
+        pairs-over h = both ∙ pair-over c stop d here next rest s own (limits _ small ∙ le-leb _ _ h)
+
+        pub pairs-at : s .«end_bar» < limit → getD (getD bars k []) 0 0 ≡ d → goal ≡ s .«end_bar» ∷ pairEnds c stop d (drop (k + 1) (c .bigs))
+        pairs-at h e = rw behind (both ∙ pair-at c stop d here next rest s own (limits _ small ∙ lt-leb _ _ h) (sym way ∙ e))
+
+        pub pairs-skip : s .«end_bar» < limit → (getD (getD bars k []) 0 0 ≡ d → ⊥) → goal ≡ pairEnds c stop d (drop (k + 1) (c .bigs))
+        pairs-skip h n = rw behind (both ∙ pair-skip c stop d here next rest s own (limits _ small ∙ lt-leb _ _ h) (λ e. n (way ∙ e)))
+
+-- ---- where the scan starts
+
+module _ (c : Levels) (e n : ℕ) (b : Triple) (bs : List Triple) where
+  leave-missing : rangeOf c b ≡ Missing → leaving c e (suc n) (b ∷ bs) ≡ leaving c e n bs
+  unfolding leaving
+  leave-missing f = rw (leaving, f)
+
+  leave-here : (s : Span) → rangeOf c b ≡ Found s → e ≤ s .«start_bar» → leaving c e (suc n) (b ∷ bs) ≡ b ∷ bs
+  unfolding leaving
+  leave-here s f h = rw (leaving, f, le-leb e (s .«start_bar») h)
+
+  leave-pass : (s : Span) → rangeOf c b ≡ Found s → s .«start_bar» < e → leaving c e (suc n) (b ∷ bs) ≡ leaving c e n bs
+  unfolding leaving
+  leave-pass s f h = rw (leaving, f, lt-leb e (s .«start_bar») h)
+
+leave-over : (c : Levels) (e : ℕ) (bs : List Triple) → leaving c e 0 bs ≡ bs
+unfolding leaving
+leave-over c e bs = refl
+
+leave-nothing : (c : Levels) (e n : ℕ) → leaving c e n [] ≡ []
+unfolding leaving
+leave-nothing c e zero = refl
+leave-nothing c e (suc n) = refl
+
+-- the bigs from place k on are left to look at
+module _
+    (m : ℕ) (bars : List (List ℕ)) (prices : List (List Float)) (last e k : ℕ) (c : Levels) (t : Bigs c m bars prices) (goal : List Triple)
+    (left : goal ≡ leaving c e (suc last - k) (drop k (c .bigs)))
+  where
+    module _ (more : k < suc last) (some-left : k < m) where
+      abbrev b : Triple
+      b = getD (c .bigs) k no-triple
+
+      one : drop k (c .bigs) ≡ b ∷ drop (k + 1) (c .bigs)
+      one = rw (add-one k) (drop-cons (c .bigs) k no-triple (omega (arith, t .count)))
+
+      opened : goal ≡ leaving c e (suc (suc last - (k + 1))) (b ∷ drop (k + 1) (c .bigs))
+      opened = let n : suc last - k ≡ suc (suc last - (k + 1)) = omega arith in rw (n, one) at left
+
+      pub start-missing : rangeIn (getD bars k []) (getD prices k []) ≡ Missing → goal ≡ leaving c e (suc last - (k + 1)) (drop (k + 1) (c .bigs))
+      start-missing f = opened ∙ leave-missing c e _ b _ (sym (range-is c m bars prices t k some-left) ∙ f)
+
+      module _ (s : Span) (found : rangeIn (getD bars k []) (getD prices k []) ≡ Found s) where
+        pub start-here : e ≤ s .«start_bar» → goal ≡ drop k (c .bigs)
+        start-here h = opened ∙ leave-here c e _ b _ s (sym (range-is c m bars prices t k some-left) ∙ found) h ∙ sym one
+
+        pub start-pass : s .«start_bar» < e → goal ≡ leaving c e (suc last - (k + 1)) (drop (k + 1) (c .bigs))
+        start-pass h = opened ∙ leave-pass c e _ b _ s (sym (range-is c m bars prices t k some-left) ∙ found) h
+
+    -- m is the number of bigs, and r the smaller of k and m
+    pub start-none : (end r : ℕ) → end ≡ min (last + 1) m → end ≤ k → r ≡ min k m → goal ≡ drop r (c .bigs)
+    start-none end r f h g = go (leb m k) refl
+      where
+        go : (u : Bool) → leb m k ≡ u → goal ≡ drop r (c .bigs)
+        go true u =
+            let far = leb-true m k u in
+            let same : r ≡ m = omega arith in
+            let gone : drop k (c .bigs) ≡ [] = drop-of-length-le (c .bigs) {i = k} (omega (arith, t .count)) in
+            let none : drop m (c .bigs) ≡ [] = drop-of-length-le (c .bigs) {i = m} (omega (arith, t .count)) in
+            left ∙ (rw (gone, same, none) (leave-nothing c e _))
+        go false u =
+            let near = leb-false m k u in
+            let same : r ≡ k = omega arith in
+            let over : suc last - k ≡ 0 = omega arith in
+            left ∙ (rw (over, same) (leave-over c e _))

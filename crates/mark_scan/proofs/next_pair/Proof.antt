@@ -1,0 +1,141 @@
+-- `mark_scan::next_pair` meets its contract. The invariant: the pairs from big `from` on are those from big k on. Assumes nothing.
+use Prim.Native.Nat.{ℕ, _-_, _<_, _≤_}
+use native.Mathlib.Omega.{arith}
+use mathlib.Core.Path.{_≡_, refl, sym, _∙_}
+use mathlib.Core.Bool.{Bool}
+use lib.ListN.{drop}
+use borrow.Author.Needs.{needs}
+use borrow.Author.Tests.{leb-true, leb-false}
+use Rattle.rules.specs.Marks.{pairEnds}
+use Rattle.rules.specs.Records.{Levels}
+use Rattle.tables.specs.Tables.{Bigs}
+use Rattle.mark_scan.specs.Scan.{Limits}
+use Rattle.mark_scan.proofs.Pairs.{pairs-none, pairs-missing, pairs-over, pairs-at, pairs-skip}
+use Rattle.mark_scan.proofs.next_pair.Statement.{statement}
+use Rattle.mark_scan.proofs.next_pair.Tie as tie
+
+abbrev Inv-loop : tie.InvT-loop
+Inv-loop bars prices m d limit from k₀ k =
+    (from ≤ k) × (k < 65536) × ((c : Levels) (stop : ℕ → Bool) → Bigs c m bars prices → Limits limit stop → pairEnds c stop d (drop from (c .bigs)) ≡ pairEnds c stop d (drop k (c .bigs)))
+
+abbrev μ-loop : tie.MeasureT-loop
+μ-loop bars prices m d limit from k₀ k = m - k
+
+loop-holds : tie.Need-loop-holds Inv-loop μ-loop
+loop-holds c = (omega arith, c .pre .1, λ l stop t lim. refl)
+
+add-loop : tie.Need-add-loop Inv-loop μ-loop
+add-loop c = search needs
+
+add-range-at : tie.Need-add-range-at Inv-loop μ-loop
+add-range-at c = search needs
+
+range-at-requires : tie.Need-range-at-requires Inv-loop μ-loop
+range-at-requires c κs = search needs
+
+enum-known-span : tie.Need-enum-known-span Inv-loop μ-loop
+enum-known-span c = search needs
+
+enum-told : tie.Need-enum-told Inv-loop μ-loop
+enum-told c = search needs
+
+returns : tie.Need-returns Inv-loop μ-loop
+returns c =
+    let read = c .before .before in
+    let turn = read .before in
+    let head = turn .before in
+    let inv = head .loop .inv in
+    (tt, λ l stop t lim. pairs-missing _ _ _ _ _ (head .loop .k) l stop t lim _ (inv .2 l stop t lim) (turn .loop-test .taken) (sym (read .range-at .ensures) ∙ c .enum-told .given .1))
+
+reached-requires : tie.Need-reached-requires Inv-loop μ-loop
+reached-requires c κs = search needs
+
+returns-2 : tie.Need-returns-2 Inv-loop μ-loop
+returns-2 c =
+    let tested = c in
+    let near = tested .before in
+    let span = near .before .before in
+    let read = span .before .before in
+    let turn = read .before in
+    let head = turn .before in
+    let inv = head .loop .inv in
+    (tt, λ l stop t lim. pairs-over _ _ _ _ _ (head .loop .k) l stop t lim _ (inv .2 l stop t lim) (turn .loop-test .taken) _ (sym (read .range-at .ensures) ∙ span .span .given .1) (near .reached .ensures .1) (leb-true _ _ (sym (near .reached .ensures .0) ∙ tested .if1 .taken)))
+
+way-at-requires : tie.Need-way-at-requires Inv-loop μ-loop
+way-at-requires c κs = search needs
+
+cast-if2 : tie.Need-cast-if2 Inv-loop μ-loop
+cast-if2 c = search needs
+
+add-t15 : tie.Need-add-t15 Inv-loop μ-loop
+add-t15 c = search needs
+
+cast-t16 : tie.Need-cast-t16 Inv-loop μ-loop
+cast-t16 c = search needs
+
+returns-3 : tie.Need-returns-3 Inv-loop μ-loop
+returns-3 c =
+    let tested = c .before .before .before in
+    let near = tested .before in
+    let span = near .before .before in
+    let read = span .before .before in
+    let turn = read .before in
+    let head = turn .before in
+    let inv = head .loop .inv in (
+      (omega (arith, inv .0), omega (arith, turn .loop-test .taken), near .reached .ensures .1),
+      λ l stop t lim. pairs-at _ _ _ _ _ (head .loop .k) l stop t lim _ (inv .2 l stop t lim) (turn .loop-test .taken) _ (sym (read .range-at .ensures) ∙ span .span .given .1) (near .reached .ensures .1)
+          (leb-false _ _ (sym (near .reached .ensures .0) ∙ tested .if1 .left))
+          (sym (c .before .before .way-at .ensures) ∙ c .before .if2 .taken),
+    )
+
+add-k : tie.Need-add-k Inv-loop μ-loop
+add-k c = search needs
+
+loop-less : tie.Need-loop-less Inv-loop μ-loop
+loop-less c = search needs
+
+loop-again : tie.Need-loop-again Inv-loop μ-loop
+loop-again c =
+    let tested = c .before .before in
+    let near = tested .before in
+    let span = near .before .before in
+    let read = span .before .before in
+    let turn = read .before in
+    let head = turn .before in
+    let inv = head .loop .inv in (
+      omega (arith, inv .0),
+      omega (arith, turn .loop-test .taken, head .before .pre .0),
+      λ l stop t lim. pairs-skip _ _ _ _ _ (head .loop .k) l stop t lim _ (inv .2 l stop t lim) (turn .loop-test .taken) _ (sym (read .range-at .ensures) ∙ span .span .given .1) (near .reached .ensures .1)
+          (leb-false _ _ (sym (near .reached .ensures .0) ∙ tested .if1 .left))
+          (λ e. c .if2 .left (c .before .way-at .ensures ∙ e)),
+    )
+
+returns-4 : tie.Need-returns-4 Inv-loop μ-loop
+returns-4 c =
+    let head = c .before in
+    (tt, λ l stop t lim. pairs-none _ _ _ _ _ (head .loop .k) l stop t lim _ (head .loop .inv .2 l stop t lim) (c .loop-test .left))
+
+pub next-pair-spec : {M : Type 1} → statement M
+next-pair-spec =
+    tie.close
+    (tie.spec
+    Inv-loop
+    μ-loop
+    loop-holds
+    add-loop
+    add-range-at
+    range-at-requires
+    enum-known-span
+    enum-told
+    returns
+    reached-requires
+    returns-2
+    way-at-requires
+    cast-if2
+    add-t15
+    cast-t16
+    returns-3
+    add-k
+    loop-less
+    loop-again
+    returns-4)

@@ -1,0 +1,107 @@
+-- `mark_scan::start_of` meets its contract. The invariant: the bigs from place k on are left to look at. Assumes nothing.
+use Prim.Native.Nat.{suc, _+_, _-_, _≤_}
+use native.Mathlib.Omega.{arith}
+use mathlib.Core.Path.{_≡_, refl, sym, _∙_}
+use lib.ListN.{drop}
+use borrow.Author.Needs.{needs}
+use Rattle.rules.specs.Records.{Levels}
+use Rattle.rules.specs.Marks.{leaving}
+use Rattle.tables.specs.Tables.{Bigs}
+use Rattle.mark_scan.proofs.Pairs.{start-missing, start-here, start-pass, start-none}
+use Rattle.mark_scan.proofs.start_of.Statement.{statement}
+use Rattle.mark_scan.proofs.start_of.Tie as tie
+
+abbrev Inv-loop : tie.InvT-loop
+Inv-loop bars prices m first last e end k₀ k =
+    (end ≤ m) × (m ≤ 256) × (end ≤ last + 1)
+    × ((c : Levels) → Bigs c m bars prices
+    → leaving c e (suc last - first) (drop first (c .bigs)) ≡ leaving c e (suc last - k) (drop k (c .bigs)))
+
+abbrev μ-loop : tie.MeasureT-loop
+μ-loop bars prices m first last e end k₀ k = end - k
+
+add-at-most : tie.Need-add-at-most Inv-loop μ-loop
+add-at-most c = search needs
+
+at-most-requires : tie.Need-at-most-requires Inv-loop μ-loop
+at-most-requires c κs = search needs
+
+loop-holds : tie.Need-loop-holds Inv-loop μ-loop
+loop-holds c = (omega (arith, c .at-most .ensures), c .before .pre .0, omega (arith, c .at-most .ensures), λ l t. refl)
+
+add-k : tie.Need-add-k Inv-loop μ-loop
+add-k c = search needs
+
+range-at-requires : tie.Need-range-at-requires Inv-loop μ-loop
+range-at-requires c κs = search needs
+
+enum-known-span : tie.Need-enum-known-span Inv-loop μ-loop
+enum-known-span c = search needs
+
+enum-told : tie.Need-enum-told Inv-loop μ-loop
+enum-told c = search needs
+
+loop-less : tie.Need-loop-less Inv-loop μ-loop
+loop-less c = search needs
+
+loop-again : tie.Need-loop-again Inv-loop μ-loop
+loop-again c =
+    let read = c .before .before in
+    let turn = read .before in
+    let head = turn .before in
+    let inv = head .loop .inv in
+    (inv .0, inv .1, inv .2, λ l t. start-missing _ _ _ _ _ (head .loop .k) l t _ (inv .3 l t) (omega (arith, inv .2, turn .loop-test .taken)) (omega (arith, inv .0, turn .loop-test .taken)) (sym (read .range-at .ensures) ∙ c .enum-told .given .1))
+
+returns : tie.Need-returns Inv-loop μ-loop
+returns c =
+    let span = c .before .before .before in
+    let read = span .before .before in
+    let turn = read .before in
+    let head = turn .before in
+    let inv = head .loop .inv in
+    (omega (arith, inv .0, turn .loop-test .taken), λ l t. start-here _ _ _ _ _ (head .loop .k) l t _ (inv .3 l t) (omega (arith, inv .2, turn .loop-test .taken)) (omega (arith, inv .0, turn .loop-test .taken)) _ (sym (read .range-at .ensures) ∙ span .span .given .1) (c .if1 .taken))
+
+loop-less-2 : tie.Need-loop-less-2 Inv-loop μ-loop
+loop-less-2 c = search needs
+
+loop-again-2 : tie.Need-loop-again-2 Inv-loop μ-loop
+loop-again-2 c =
+    let span = c .before .before .before in
+    let read = span .before .before in
+    let turn = read .before in
+    let head = turn .before in
+    let inv = head .loop .inv in
+    (inv .0, inv .1, inv .2, λ l t. start-pass _ _ _ _ _ (head .loop .k) l t _ (inv .3 l t) (omega (arith, inv .2, turn .loop-test .taken)) (omega (arith, inv .0, turn .loop-test .taken)) _ (sym (read .range-at .ensures) ∙ span .span .given .1) (c .if1 .left))
+
+at-most-requires-2 : tie.Need-at-most-requires-2 Inv-loop μ-loop
+at-most-requires-2 c κs = search needs
+
+returns-2 : tie.Need-returns-2 Inv-loop μ-loop
+returns-2 c =
+    let after = c .before in
+    let head = after .before in
+    let inv = head .loop .inv in (
+      omega (arith, c .at-most2 .ensures),
+      λ l t. start-none _ _ _ _ _ (head .loop .k) l t _ (inv .3 l t) _ _ (head .before .at-most .ensures) (after .loop-test .left) (c .at-most2 .ensures),
+    )
+
+pub start-of-spec : {M : Type 1} → statement M
+start-of-spec =
+    tie.close
+    (tie.spec
+    Inv-loop
+    μ-loop
+    add-at-most
+    at-most-requires
+    loop-holds
+    add-k
+    range-at-requires
+    enum-known-span
+    enum-told
+    loop-less
+    loop-again
+    returns
+    loop-less-2
+    loop-again-2
+    at-most-requires-2
+    returns-2)
