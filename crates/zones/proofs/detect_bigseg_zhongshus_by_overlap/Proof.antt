@@ -1,55 +1,44 @@
 -- `zones::detect_bigseg_zhongshus_by_overlap` meets its contract. Assumes nothing.
+use native.Mathlib.Omega.{arith}
+use mathlib.Core.Path.{refl, _∙_}
 use borrow.Author.Needs.{needs}
-use mathlib.Core.Path.{sym, _∙_}
-use Rattle.rules.specs.Records.{levelsOf}
-use Rattle.rules.specs.Ranges.{rangeOf}
-use Rattle.laws.proofs.Answers.{counted}
-use Rattle.zones.proofs.Call.{zones-bad, zones-good}
+use Rattle.zones.proofs.Call.{zones-refused, zones-given}
 use Rattle.zones.proofs.detect_bigseg_zhongshus_by_overlap.Statement.{statement}
 use Rattle.zones.proofs.detect_bigseg_zhongshus_by_overlap.Tie as tie
 
-bad-chart-requires : tie.Need-bad-chart-requires
-bad-chart-requires c κs = search needs
+-- the call is not refused
+abbrev else1 : tie.After-zp2 → tie.Else1
+else1 c = c .before .before .before
+
+abbrev begun : tie.Else1 → tie.After-tables-of
+begun c = c .before .before
+
+tables-of-requires : tie.Need-tables-of-requires
+tables-of-requires c κs = ((refl, refl), (refl, refl), refl)
 
 refusal-requires : tie.Need-refusal-requires
 refusal-requires c κs = search needs
 
 returns : tie.Need-returns
-returns c = c .refusal .ensures .0 ∙ zones-bad _ (sym (c .before .before .bad-chart .ensures) ∙ c .before .if1 .taken)
+returns c = c .refusal .ensures ∙ zones-refused _ _ (c .before .before .before .tables-of .ensures .0) (c .before .if1 .taken)
 
-ranges-of-requires : tie.Need-ranges-of-requires
-ranges-of-requires c κs = search needs
-
-cast-overlap : tie.Need-cast-overlap
-cast-overlap c = search needs
-
-cast-overlap-2 : tie.Need-cast-overlap-2
-cast-overlap-2 c = search needs
-
-overlap-requires : tie.Need-overlap-requires
-overlap-requires c κs =
-    let good = c .before .before .before .before .before .before in
-    let h = counted _ (sym (good .before .bad-chart .ensures) ∙ good .if1 .left) in
-    (h .superiors, h .bigs)
+rows-of-requires : tie.Need-rows-of-requires
+rows-of-requires c κs =
+    let made = begun (else1 c) .tables-of in
+    (made .ensures .1 .0 (else1 c .if1 .left) .fits .zones, made .ensures .1 .1)
 
 returns-2 : tie.Need-returns-2
-unfolding levelsOf
 returns-2 c =
-    let table = c .before .before .before .before .before .before in
-    let good = table .before in
-    let chart = good .before .before .args .chart in
-    c .overlap .ensures .0 (rangeOf (levelsOf chart)) (table .ranges-of .ensures)
-    ∙ zones-good chart (sym (good .before .bad-chart .ensures) ∙ good .if1 .left)
+    let known = else1 (c .before) in
+    let made = begun known .tables-of in
+    c .rows-of .ensures ∙ zones-given _ _ _ _ _ (made .ensures .0) (known .if1 .left) (made .ensures .1 .0 (known .if1 .left) .zones)
 
 pub detect-bigseg-zhongshus-by-overlap-spec : {M : Type 1} → statement M
 detect-bigseg-zhongshus-by-overlap-spec =
     tie.close
     (tie.spec
-    bad-chart-requires
+    tables-of-requires
     refusal-requires
     returns
-    ranges-of-requires
-    cast-overlap
-    cast-overlap-2
-    overlap-requires
+    rows-of-requires
     returns-2)
