@@ -13,7 +13,9 @@ use Rattle.chart.specs.declared.Zone.{Zone}
 use Rattle.rules.specs.Lists.{keep, find, collect}
 use Rattle.rules.specs.Records.{Levels}
 use Rattle.rules.specs.Marks.{superiorOf, leaving, reachesZone, stops, superiorEnd, pairEnds}
-use Rattle.tables.specs.Tables.{Bigs, Sups, Zoned}
+use Rattle.rules.specs.Zones.{overlapZones}
+use Rattle.tables.specs.declared.Counts.{Counts}
+use Rattle.tables.specs.Tables.{Bigs, Sups, Zoned, Fits}
 use Rattle.mark_scan.specs.declared.Pair.{Pair}
 use Rattle.mark_scan.specs.declared.Pair.the-variants.{At, Over}
 use Rattle.mark_scan.specs.declared.Scan.{Scan}
@@ -93,3 +95,10 @@ scanIn row = record { superior = getD row 0 0; direction = getD row 1 0; from = 
 pub record Scans (c : Levels) (zs : List Zone) (n : ℕ) (scans : List (List ℕ)) : Type 0 where
   pub count : length zs ≡ n
   pub are : (i : ℕ) (z : Zone) → getElem? zs i ≡ some z → ZoneScan c zs z (scanIn (getD scans i []))
+
+-- the tables of the bigs and superiors of these levels, and the scans of their overlap zones
+pub record Scanned (c : Levels) (n : Counts) (bars : List (List ℕ)) (prices : List (List Float)) (sups rows : List (List ℕ)) : Type 0 where
+  pub fits : Fits n
+  pub bigs : Bigs c (n .bigs) bars prices
+  pub superiors : Sups c (n .superiors) sups
+  pub scans : Scans c (overlapZones c) (n .zones) rows
