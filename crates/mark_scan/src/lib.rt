@@ -1,11 +1,14 @@
 // The scan of a zone's pairs, for third and 3+N marks: where it starts, what stops it, and the next pair. A limit of 65,536 is none.
 use chart::Range;
 ghost use mathlib.Core.Path.{_≡_};
+ghost use mathlib.Core.Bool.{true, cond, not, _&&_};
 ghost use mathlib.Core.List.{[]};
-ghost use Prim.Native.Nat.{_≤_, _<_, min};
-ghost use lib.ListN.{getD};
-ghost use lib.Dec.{leb};
-ghost use Rattle.mark_scan.specs.Scan.{Later, NextPair, StartsAt, scanIn};
+ghost use Prim.Native.Nat.{_+_, _-_, _%_, _≤_, _<_, min};
+ghost use lib.ListN.{getD, drop};
+ghost use lib.Dec.{eqb, leb, ltb};
+ghost use Rattle.rules.specs.Records.{Levels};
+ghost use Rattle.tables.specs.Tables.{Sups};
+ghost use Rattle.mark_scan.specs.Scan.{NextZone, StartsRise, reversalIn, limitOf, Later, NextPair, StartsAt, scanIn};
 
 // ---- where it starts
 
@@ -43,6 +46,129 @@ fn start_of(
         }
     }
     at_most(k, m)
+}
+
+// ---- what stops it
+
+// How many bars a zone starts behind bar e + 1, where it is of another superior than h and starts behind e; elsewhere so many that they
+// lead behind all bars. A sum that wraps, so that no test stands in the loop.
+fn bars_behind(h: u16, e: u16, owner: u16, start: u16) -> u16
+    ensures { λ r. ⌜ r ≡ cond (eqb owner h) 0xffff ((start + (0xffff - e)) % 0x1_0000) ⌝ }
+    ensures { λ _. ⌜ (e < 0x1_0000) × (start < 0x1_0000) ⌝ }
+{
+    if owner == h {
+        return 65535;
+    }
+    ((start as u32 + (65535 - e as u32)) % 65536) as u16
+}
+
+// The smaller of two numbers of bars.
+fn fewer(a: u16, b: u16) -> u16
+    ensures { λ r. ⌜ r ≡ min a b ⌝ }
+{
+    if a < b { a } else { b }
+}
+
+// The least start bar of a zone of another superior than h that starts behind bar e. Every zone is looked at, with no test that ends the
+// loop, so that many can be taken at once.
+fn next_zone(zb: &[[u16; 5]; 256], n: usize, h: u16, e: u16) -> u32
+    requires { ⌜ n ≤ 256 ⌝ }
+    ensures { λ r. ⌜ NextZone n (now (zb .entry)) 0 h e r ⌝ }
+{
+    let mut least = 65535u16;
+    let mut i = 0usize;
+    while i < n {
+        let more = bars_behind(h, e, zb[i][0], zb[i][1]);
+        least = fewer(least, more);
+        i += 1;
+    }
+    if least < 65535 - e {
+        return least as u32 + e as u32 + 1;
+    }
+    65536
+}
+
+// Whether a zone is of another superior than h and starts behind bar e.
+fn is_next(h: u16, e: u16, owner: u16, start: u16) -> bool
+    ensures { λ r. ⌜ (r ≡ (not (eqb owner h) && ltb e start)) × (start < 0x1_0000) ⌝ }
+{
+    owner != h && e < start
+}
+
+// The start bar of the first zone from place `from` on that is of another superior than h and starts behind bar e, where start bars never
+// fall.
+fn zone_behind(zb: &[[u16; 5]; 256], n: usize, from: usize, h: u16, e: u16) -> u32
+    requires { ⌜ (n ≤ 256) × StartsRise n (now zb) ⌝ }
+    ensures { λ r. ⌜ NextZone n (now (zb .entry)) from h e r ⌝ }
+{
+    let mut i = from;
+    while i < n {
+        if is_next(h, e, zb[i][0], zb[i][1]) {
+            return zb[i][1] as u32;
+        }
+        i += 1;
+    }
+    65536
+}
+
+// As next_zone, for the zone at place `at`. Where no zone starts before the one before it, the first that counts behind that place is the
+// nearest.
+fn zone_limit(zb: &[[u16; 5]; 256], n: usize, rise: bool, at: usize) -> u32
+    requires { ⌜ (at < n) × (n ≤ 256) × (rise ≡ true → StartsRise n (now zb)) ⌝ }
+    ensures {
+        λ r. ⌜ NextZone n (now (zb .entry)) 0 (getD (getD (now (zb .entry)) at []) 0 0) (getD (getD (now (zb .entry)) at []) 2 0) r ⌝
+    }
+{
+    let h = zb[at][0];
+    let e = zb[at][2];
+    if rise {
+        if zb[at][1] <= e {
+            return zone_behind(zb, n, at, h, e);
+        }
+    }
+    next_zone(zb, n, h, e)
+}
+
+// Whether the start bars of the first n zones never fall.
+fn starts_rise(zb: &[[u16; 5]; 256], n: usize) -> bool
+    requires { ⌜ n ≤ 256 ⌝ }
+    ensures { λ r. ⌜ (r ≡ true → StartsRise n (now (zb .entry))) ⌝ }
+{
+    let mut rise = true;
+    let mut last = 0u16;
+    let mut i = 0usize;
+    while i < n {
+        let start = zb[i][1];
+        rise = rise & (last <= start);
+        last = start;
+        i += 1;
+    }
+    rise
+}
+
+// Whether a superior is not of direction d, and has an end bar that is behind bar e.
+fn turns(d: u16, e: u16, way: u16, there: u16, end: u16) -> bool
+    ensures { λ r. ⌜ (r ≡ (not (eqb there 0) && not (eqb way d) && ltb e end)) × (end < 0x1_0000) ⌝ }
+{
+    if there == 0 {
+        return false;
+    }
+    way != d && e < end
+}
+
+// The first end bar behind e among the superiors from place `from` on that are not of direction d.
+fn reversal(sups: &[[u16; 5]; 256], n: usize, from: usize, d: u16, e: u16) -> u32
+    requires { ⌜ n ≤ 256 ⌝ }
+    ensures { λ r. ⌜ ((c : Levels) → Sups c n (now (sups .entry)) → r ≡ limitOf (reversalIn c d e (drop from (c .superiors)))) ⌝ }
+{
+    let mut i = from;
+    while i < n {
+        if turns(d, e, sups[i][0], sups[i][3], sups[i][4]) {
+            return sups[i][4] as u32;
+        }
+        i += 1;
+    }
+    65536
 }
 
 // ---- the scans of all zones

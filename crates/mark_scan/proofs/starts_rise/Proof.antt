@@ -1,0 +1,69 @@
+-- `mark_scan::starts_rise` meets its contract. The invariant: where no start bar fell so far, none of them is above the last. Assumes nothing.
+use Prim.Native.Nat.{_-_, _≤_}
+use native.Mathlib.Omega.{arith}
+use mathlib.Core.Path.{_≡_}
+use mathlib.Core.Bool.{true}
+use mathlib.Core.List.{[]}
+use lib.Dec.{leb}
+use lib.ListN.{getD}
+use borrow.Author.Tests.{leb-true}
+use Rattle.laws.proofs.Tests.{and-l, and-r}
+use Rattle.mark_scan.proofs.Stops.{Risen, risen-none, risen-next}
+use borrow.Author.Needs.{needs}
+use Rattle.mark_scan.proofs.starts_rise.Statement.{statement}
+use Rattle.mark_scan.proofs.starts_rise.Tie as tie
+
+abbrev Inv-loop : tie.InvT-loop
+Inv-loop zb n rise₀ last₀ i₀ rise last i = (i ≤ n) × (rise ≡ true → Risen zb i last)
+
+abbrev μ-loop : tie.MeasureT-loop
+μ-loop zb n rise₀ last₀ i₀ rise last i = n - i
+
+loop-holds : tie.Need-loop-holds Inv-loop μ-loop
+loop-holds c = (omega arith, λ good. risen-none _ 0)
+
+mul-start : tie.Need-mul-start Inv-loop μ-loop
+mul-start c = search needs
+
+index-1-start : tie.Need-index-1-start Inv-loop μ-loop
+index-1-start c = search needs
+
+index-2-start : tie.Need-index-2-start Inv-loop μ-loop
+index-2-start c = search needs
+
+add-i : tie.Need-add-i Inv-loop μ-loop
+add-i c = search needs
+
+loop-less : tie.Need-loop-less Inv-loop μ-loop
+loop-less c = search needs
+
+loop-again : tie.Need-loop-again Inv-loop μ-loop
+loop-again c =
+    let head = c .before .before in
+    let rise = head .loop .rise in
+    let last = head .loop .last in
+    let i = head .loop .i in
+    let zb = head .before .args .zb .now in (
+      omega arith,
+      λ good.
+          risen-next zb i last (leb-true _ _ (and-r rise (leb last (getD (getD zb i []) 1 0)) good))
+          (head .loop .inv .1 (and-l rise (leb last (getD (getD zb i []) 1 0)) good)),
+    )
+
+returns : tie.Need-returns Inv-loop μ-loop
+returns c good i j h w = c .before .loop .inv .1 good .rise i j h (omega arith)
+
+pub starts-rise-spec : {M : Type 1} → statement M
+starts-rise-spec =
+    tie.close
+    (tie.spec
+    Inv-loop
+    μ-loop
+    loop-holds
+    mul-start
+    index-1-start
+    index-2-start
+    add-i
+    loop-less
+    loop-again
+    returns)
