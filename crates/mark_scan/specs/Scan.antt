@@ -15,7 +15,7 @@ use Rattle.rules.specs.Records.{Levels}
 use Rattle.rules.specs.Marks.{superiorOf, leaving, reachesZone, stops, superiorEnd, pairEnds}
 use Rattle.rules.specs.Zones.{overlapZones}
 use Rattle.tables.specs.declared.Counts.{Counts}
-use Rattle.tables.specs.Tables.{Bigs, Sups, Zoned, Fits}
+use Rattle.tables.specs.Tables.{Bigs, Sups, Zoned, Fits, Tables}
 use Rattle.mark_scan.specs.declared.Pair.{Pair}
 use Rattle.mark_scan.specs.declared.Pair.the-variants.{At, Over}
 use Rattle.mark_scan.specs.declared.Scan.{Scan}
@@ -90,6 +90,12 @@ pub record ZoneScan (c : Levels) (zs : List Zone) (z : Zone) (s : Scan) : Type 0
 -- a row: superior, direction, from, limit
 abbrev pub scanIn : List ℕ → Scan
 scanIn row = record { superior = getD row 0 0; direction = getD row 1 0; from = getD row 2 0; limit = getD row 3 0 }
+
+-- a row is the scan of the overlap zone at place `at` of the levels that these tables stand for
+abbrev pub ScanOf : Counts → List (List ℕ) → List (List Float) → List (List ℕ) → List (List ℕ) → ℕ → List ℕ → Type 0
+ScanOf n bars prices sups zb at row =
+    (c : Levels) (zp : List (List Float)) → Tables c n bars prices sups zb zp
+    → (z : Zone) → getElem? (overlapZones c) at ≡ some z → ZoneScan c (overlapZones c) z (scanIn row)
 
 -- the first n rows are the scans of these zones
 pub record Scans (c : Levels) (zs : List Zone) (n : ℕ) (scans : List (List ℕ)) : Type 0 where

@@ -1,14 +1,17 @@
 // The scan of a zone's pairs, for third and 3+N marks: where it starts, what stops it, and the next pair. A limit of 65,536 is none.
 use chart::Range;
+use tables::Counts;
 ghost use mathlib.Core.Path.{_≡_};
 ghost use mathlib.Core.Bool.{true, cond, not, _&&_};
-ghost use mathlib.Core.List.{[]};
+ghost use mathlib.Core.List.{List, []};
 ghost use Prim.Native.Nat.{_+_, _-_, _%_, _≤_, _<_, min};
-ghost use lib.ListN.{getD, drop};
+ghost use lib.ListN.{length, getD, drop};
 ghost use lib.Dec.{eqb, leb, ltb};
+ghost use lib.Ieee.{Float};
 ghost use Rattle.rules.specs.Records.{Levels};
-ghost use Rattle.tables.specs.Tables.{Sups};
-ghost use Rattle.mark_scan.specs.Scan.{NextZone, StartsRise, reversalIn, limitOf, Later, NextPair, StartsAt, scanIn};
+ghost use Rattle.tables.specs.Tables.{Sups, Fits, Tables};
+ghost use Rattle.mark_scan.specs.Scan.{NextZone, StartsRise, OwnersBelow, reversalIn, limitOf, Later, NextPair, StartsAt, scanIn};
+ghost use Rattle.mark_scan.specs.Scan.{ScanOf, Scanned};
 
 // ---- where it starts
 
@@ -190,6 +193,77 @@ pub fn scan_at(scans: &[[u32; 4]; 256], i: usize) -> Scan
         direction: scans[i][1],
         from: scans[i][2],
         limit: scans[i][3],
+    }
+}
+
+// The smaller of two limits.
+fn sooner(a: u32, b: u32) -> u32
+    ensures { λ r. ⌜ r ≡ min a b ⌝ }
+{
+    if a < b { a } else { b }
+}
+
+// A number of a table as a place.
+fn wide(x: u16) -> usize
+    ensures { λ r. ⌜ (r ≡ x) × (r < 0x1_0000) ⌝ }
+{
+    x as usize
+}
+
+// The row of the scan of the zone at place `at`; `rise` where the zones' start bars never fall.
+fn scan_of(
+    bars: &[[u16; 6]; 256],
+    prices: &[[f64; 3]; 256],
+    sups: &[[u16; 5]; 256],
+    zb: &[[u16; 5]; 256],
+    counts: Counts,
+    rise: bool,
+    at: usize,
+) -> [u32; 4]
+    requires { ⌜ Fits counts × (at < counts .zones) ⌝ }
+    requires { ⌜ OwnersBelow (counts .zones) (now zb) (counts .superiors) × (rise ≡ true → StartsRise (counts .zones) (now zb)) ⌝ }
+    ensures {
+        λ r. ⌜ ScanOf counts (now (bars .entry)) (now (prices .entry)) (now (sups .entry)) (now (zb .entry)) at r ⌝
+    }
+{
+    let owner = wide(zb[at][0]);
+    let e = zb[at][2];
+    let way = sups[owner][0];
+    let first = wide(sups[owner][1]);
+    let last = wide(sups[owner][2]);
+    let from = start_of(bars, prices, counts.bigs, first, last, e);
+    let near = zone_limit(zb, counts.zones, rise, at);
+    let turn = reversal(sups, counts.superiors, owner + 1, way, e);
+    [
+        owner as u32,
+        wide(way) as u32,
+        from as u32,
+        sooner(near, turn),
+    ]
+}
+
+// The scans of the zones into a table: of each its superior, that one's direction, where the scan starts, and the limit that stops it.
+pub fn scans_of(
+    bars: &[[u16; 6]; 256],
+    prices: &[[f64; 3]; 256],
+    sups: &[[u16; 5]; 256],
+    zb: &[[u16; 5]; 256],
+    counts: Counts,
+    scans: &mut [[u32; 4]; 256],
+)
+    requires { ⌜ Fits counts × OwnersBelow (counts .zones) (now zb) (counts .superiors) × (length (now scans) ≡ 256) ⌝ }
+    ensures { λ _. ⌜ length (now (scans .exit)) ≡ 256 ⌝ }
+    ensures {
+        λ _. ⌜ ((c : Levels) (zp : List (List Float))
+        → Tables c counts (now (bars .entry)) (now (prices .entry)) (now (sups .entry)) (now (zb .entry)) zp
+        → Scanned c counts (now (bars .entry)) (now (prices .entry)) (now (sups .entry)) (now (scans .exit))) ⌝
+    }
+{
+    let rise = starts_rise(zb, counts.zones);
+    let mut i = 0usize;
+    while i < counts.zones {
+        scans[i] = scan_of(bars, prices, sups, zb, counts, rise, i);
+        i += 1;
     }
 }
 

@@ -1,0 +1,135 @@
+-- The scan of one zone, the scans of all, and what their table tells. Assumes nothing.
+use Prim.Native.Nat.{ℕ, suc, _+_, _-_, _<_, _≤_, min}
+use native.Mathlib.Omega.{arith}
+use native.Mathlib.Numerals.{add-one}
+use mathlib.Core.Path.{_≡_, refl, sym, ap, _∙_}
+use mathlib.Core.Bool.{Bool, true, false, _||_}
+use mathlib.Core.List.{List, [], _∷_}
+use mathlib.Core.Option.{Option, none, some}
+use lib.ListN.{length, getD, getElem?, set, drop}
+use lib.Seq.{getD-set-same, getD-set-other}
+use lib.Dec.{eqb, leb}
+use lib.Ieee.{Float}
+use borrow.Author.Tests.{lt-leb, eqb-true, eqb-false}
+use Rattle.chart.specs.declared.Stroke.{Stroke}
+use Rattle.chart.specs.declared.Triple.{Triple}
+use Rattle.chart.specs.declared.Zone.{Zone}
+use Rattle.rules.specs.Records.{Levels}
+use Rattle.rules.specs.Marks.{superiorOf, reachesZone, reversal, reaches, stops}
+use Rattle.rules.specs.Zones.{overlapZones}
+use Rattle.laws.proofs.Lists.{all-at, at-getD, lt-at, at-lt}
+use Rattle.laws.proofs.Owned.{zones-owned}
+use Rattle.tables.specs.declared.Counts.{Counts}
+use Rattle.tables.specs.Tables.{Sups, Tables, tripleIn}
+use Rattle.tables.proofs.Sups.{triple-is}
+use Rattle.tables.proofs.Zones.{no-zone, owner-of, end-of}
+use Rattle.mark_scan.specs.declared.Scan.{Scan}
+use Rattle.mark_scan.specs.Scan.{NextZone, OwnersBelow, StartsAt, reversalIn, limitOf, ZoneScan, scanIn, ScanOf, Scanned}
+use Rattle.mark_scan.proofs.Stops.{leb-min}
+
+-- ---- one zone
+
+-- the end bar of a stroke is the limit where it is there
+stroke-limit : (o : Option Stroke) (bar : ℕ) → bar < 0x1_0000 → reaches o bar ≡ leb (limitOf o) bar
+unfolding reaches
+stroke-limit none bar below = sym (lt-leb 0x1_0000 bar below)
+stroke-limit (some s) bar below = refl
+
+-- the tables at the zone at place `at`: its superior, end bar, and that superior's direction, first and last
+module _
+    (n : Counts) (bars : List (List ℕ)) (prices : List (List Float)) (sups zb : List (List ℕ)) (at owner way first last : ℕ)
+    (inside : at < n .zones) (below : owner < n .superiors)
+    (owned : owner ≡ getD (getD zb at []) 0 0) (is-way : way ≡ getD (getD sups owner []) 0 0)
+    (is-first : first ≡ getD (getD sups owner []) 1 0) (is-last : last ≡ getD (getD sups owner []) 2 0)
+  where
+    abbrev e : ℕ
+    e = getD (getD zb at []) 2 0
+
+    module _ (c : Levels) (zp : List (List Float)) (t : Tables c n bars prices sups zb zp) (z : Zone) (here : getElem? (overlapZones c) at ≡ some z) where
+      there : getD (overlapZones c) at no-zone ≡ z
+      there = at-getD (overlapZones c) at no-zone z here
+
+      own : z .«sup_idx» ≡ owner
+      own = sym (owned ∙ owner-of (overlapZones c) (n .zones) zb zp (t .zones) at inside ∙ ap (λ (y : Zone). y .«sup_idx») there)
+
+      end : z .«end_bar» ≡ e
+      end = sym (end-of (overlapZones c) (n .zones) zb zp (t .zones) at inside ∙ ap (λ (y : Zone). y .«end_bar») there)
+
+      superior : superiorOf c z ≡ record { direction = way; first = first; last = last }
+      unfolding superiorOf
+      superior = rw (own, is-way, is-first, is-last) (sym (triple-is c (n .superiors) sups (t .superiors) owner below))
+
+    pub zone-scan :
+        (from near turn limit way' : ℕ) → StartsAt (n .bigs) bars prices first last e from → NextZone (n .zones) zb 0 (getD (getD zb at []) 0 0) e near
+        → ((c : Levels) → Sups c (n .superiors) sups → turn ≡ limitOf (reversalIn c way e (drop (owner + 1) (c .superiors))))
+        → limit ≡ min near turn → way' ≡ way → ScanOf n bars prices sups zb at (owner ∷ way' ∷ from ∷ limit ∷ [])
+    unfolding stops reversal
+    zone-scan from near turn limit way' starts zones turns smaller same c zp t z here =
+        let mine = own c zp t z here in
+        let ends-at = end c zp t z here in
+        let s = superior c zp t z here in
+        record {
+          own = mine;
+          way = rw (s, same);
+          begins = rw (s, ends-at) (starts c (t .bigs));
+          ends = λ bar small.
+              rw (
+                smaller,
+                leb-min near turn bar,
+                ← zones (overlapZones c) zp (t .zones) z (mine ∙ owned) ends-at bar small,
+                turns c (t .superiors),
+                s,
+                mine,
+                ends-at,
+                ← add-one owner,
+                stroke-limit (reversalIn c way e (drop (owner + 1) (c .superiors))) bar small,
+              );
+        }
+
+-- ---- all zones
+
+-- the first i rows are scans
+abbrev pub ScannedTo : Counts → List (List ℕ) → List (List Float) → List (List ℕ) → List (List ℕ) → List (List ℕ) → ℕ → Type 0
+ScannedTo n bars prices sups zb rows i = (j : ℕ) → j < i → ScanOf n bars prices sups zb j (getD rows j [])
+
+module _ (n : Counts) (bars : List (List ℕ)) (prices : List (List Float)) (sups zb rows : List (List ℕ)) (i : ℕ) (done : ScannedTo n bars prices sups zb rows i) where
+  pub scans-next : (row : List ℕ) → i < length rows → ScanOf n bars prices sups zb i row → ScannedTo n bars prices sups zb (set rows i row) (i + 1)
+  scans-next row k scan j h = go (eqb j i) refl
+    where
+      go : (u : Bool) → eqb j i ≡ u → ScanOf n bars prices sups zb j (getD (set rows i row) j [])
+      go true f = let same = eqb-true j i f in rw (same, getD-set-same rows i row [] k) scan
+      go false f = let other = eqb-false j i f in rw (getD-set-other rows i j row [] other) (done j (omega (arith, h, other)))
+
+  pub scans-all : n .zones ≤ i → (c : Levels) (zp : List (List Float)) → Tables c n bars prices sups zb zp → Scanned c n bars prices sups rows
+  scans-all k c zp t =
+      record {
+        fits = t .fits;
+        bigs = t .bigs;
+        superiors = t .superiors;
+        scans =
+            record {
+              count = t .zones .count;
+              are = λ j z here. done j (omega (arith, k, at-lt (overlapZones c) j z here, t .zones .count)) c zp t z here;
+            };
+      }
+
+-- ---- for users
+
+-- the zones of a chart's tables are of its superiors
+pub tables-owners :
+    (c : Levels) (n : Counts) (bars : List (List ℕ)) (prices : List (List Float)) (sups zb : List (List ℕ)) (zp : List (List Float))
+    → Tables c n bars prices sups zb zp → OwnersBelow (n .zones) zb (n .superiors)
+tables-owners c n bars prices sups zb zp t i h =
+    let there = lt-at (overlapZones c) i (omega (arith, h, t .zones .count)) in
+    let owner = owner-of (overlapZones c) (n .zones) zb zp (t .zones) i h in
+    let same = ap (λ (z : Zone). z .«sup_idx») (at-getD (overlapZones c) i no-zone (there .0) (there .1)) in
+    omega (arith, owner, same, all-at i (there .0) (zones-owned c) (there .1), t .superiors .count)
+
+-- a row that is read is the scan of the zone at its place
+pub scan-is :
+    (c : Levels) (n : Counts) (bars : List (List ℕ)) (prices : List (List Float)) (sups rows : List (List ℕ)) → Scanned c n bars prices sups rows
+    → (i : ℕ) (s : Scan) → i < n .zones → s ≡ scanIn (getD rows i [])
+    → (z : Zone) × (getElem? (overlapZones c) i ≡ some z) × ZoneScan c (overlapZones c) z s
+scan-is c n bars prices sups rows t i s h read =
+    let there = lt-at (overlapZones c) i (omega (arith, h, t .scans .count)) in
+    (there .0, there .1, rw read (t .scans .are i (there .0) (there .1)))
