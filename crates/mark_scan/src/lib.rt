@@ -118,9 +118,7 @@ fn zone_behind(zb: &[[u16; 5]; 256], n: usize, from: usize, h: u16, e: u16) -> u
 // nearest.
 fn zone_limit(zb: &[[u16; 5]; 256], n: usize, rise: bool, at: usize) -> u32
     requires { ⌜ (at < n) × (n ≤ 256) × (rise ≡ true → StartsRise n (now zb)) ⌝ }
-    ensures {
-        λ r. ⌜ NextZone n (now (zb .entry)) 0 (getD (getD (now (zb .entry)) at []) 0 0) (getD (getD (now (zb .entry)) at []) 2 0) r ⌝
-    }
+    ensures { λ r. ⌜ NextZone n (now (zb .entry)) 0 (getD (getD (now (zb .entry)) at []) 0 0) (getD (getD (now (zb .entry)) at []) 2 0) r ⌝ }
 {
     let h = zb[at][0];
     let e = zb[at][2];
@@ -222,9 +220,7 @@ fn scan_of(
 ) -> [u32; 4]
     requires { ⌜ Fits counts × (at < counts .zones) ⌝ }
     requires { ⌜ OwnersBelow (counts .zones) (now zb) (counts .superiors) × (rise ≡ true → StartsRise (counts .zones) (now zb)) ⌝ }
-    ensures {
-        λ r. ⌜ ScanOf counts (now (bars .entry)) (now (prices .entry)) (now (sups .entry)) (now (zb .entry)) at r ⌝
-    }
+    ensures { λ r. ⌜ ScanOf counts (now (bars .entry)) (now (prices .entry)) (now (sups .entry)) (now (zb .entry)) at r ⌝ }
 {
     let owner = wide(zb[at][0]);
     let e = zb[at][2];
@@ -253,11 +249,9 @@ pub fn scans_of(
 )
     requires { ⌜ Fits counts × OwnersBelow (counts .zones) (now zb) (counts .superiors) × (length (now scans) ≡ 256) ⌝ }
     ensures { λ _. ⌜ length (now (scans .exit)) ≡ 256 ⌝ }
-    ensures {
-        λ _. ⌜ ((c : Levels) (zp : List (List Float))
+    ensures { λ _. ⌜ ((c : Levels) (zp : List (List Float))
         → Tables c counts (now (bars .entry)) (now (prices .entry)) (now (sups .entry)) (now (zb .entry)) zp
-        → Scanned c counts (now (bars .entry)) (now (prices .entry)) (now (sups .entry)) (now (scans .exit))) ⌝
-    }
+        → Scanned c counts (now (bars .entry)) (now (prices .entry)) (now (sups .entry)) (now (scans .exit))) ⌝ }
 {
     let rise = starts_rise(zb, counts.zones);
     let mut i = 0usize;

@@ -45,7 +45,8 @@ returns c =
     let turn = read .before in
     let head = turn .before in
     let inv = head .loop .inv in
-    (tt, λ l stop t lim. pairs-missing _ _ _ _ _ (head .loop .k) l stop t lim _ (inv .2 l stop t lim) (turn .loop-test .taken) (sym (read .range-at .ensures) ∙ c .enum-told .given .1))
+    let missing = sym (read .range-at .ensures) ∙ c .enum-told .given .1 in
+    (tt, λ l stop t lim. pairs-missing _ _ _ _ _ (head .loop .k) l stop t lim _ (inv .2 l stop t lim) (turn .loop-test .taken) missing)
 
 reached-requires : tie.Need-reached-requires Inv-loop μ-loop
 reached-requires c κs = search needs
@@ -59,7 +60,11 @@ returns-2 c =
     let turn = read .before in
     let head = turn .before in
     let inv = head .loop .inv in
-    (tt, λ l stop t lim. pairs-over _ _ _ _ _ (head .loop .k) l stop t lim _ (inv .2 l stop t lim) (turn .loop-test .taken) _ (sym (read .range-at .ensures) ∙ span .span .given .1) (near .reached .ensures .1) (leb-true _ _ (sym (near .reached .ensures .0) ∙ tested .if1 .taken)))
+    let found = sym (read .range-at .ensures) ∙ span .span .given .1 in (
+      tt,
+      λ l stop t lim. pairs-over _ _ _ _ _ (head .loop .k) l stop t lim _ (inv .2 l stop t lim) (turn .loop-test .taken) _ found (near .reached .ensures .1)
+          (leb-true _ _ (sym (near .reached .ensures .0) ∙ tested .if1 .taken)),
+    )
 
 way-at-requires : tie.Need-way-at-requires Inv-loop μ-loop
 way-at-requires c κs = search needs
@@ -81,9 +86,10 @@ returns-3 c =
     let read = span .before .before in
     let turn = read .before in
     let head = turn .before in
-    let inv = head .loop .inv in (
+    let inv = head .loop .inv in
+    let found = sym (read .range-at .ensures) ∙ span .span .given .1 in (
       (omega (arith, inv .0), omega (arith, turn .loop-test .taken), near .reached .ensures .1),
-      λ l stop t lim. pairs-at _ _ _ _ _ (head .loop .k) l stop t lim _ (inv .2 l stop t lim) (turn .loop-test .taken) _ (sym (read .range-at .ensures) ∙ span .span .given .1) (near .reached .ensures .1)
+      λ l stop t lim. pairs-at _ _ _ _ _ (head .loop .k) l stop t lim _ (inv .2 l stop t lim) (turn .loop-test .taken) _ found (near .reached .ensures .1)
           (leb-false _ _ (sym (near .reached .ensures .0) ∙ tested .if1 .left))
           (sym (c .before .before .way-at .ensures) ∙ c .before .if2 .taken),
     )
@@ -102,10 +108,11 @@ loop-again c =
     let read = span .before .before in
     let turn = read .before in
     let head = turn .before in
-    let inv = head .loop .inv in (
+    let inv = head .loop .inv in
+    let found = sym (read .range-at .ensures) ∙ span .span .given .1 in (
       omega (arith, inv .0),
       omega (arith, turn .loop-test .taken, head .before .pre .0),
-      λ l stop t lim. pairs-skip _ _ _ _ _ (head .loop .k) l stop t lim _ (inv .2 l stop t lim) (turn .loop-test .taken) _ (sym (read .range-at .ensures) ∙ span .span .given .1) (near .reached .ensures .1)
+      λ l stop t lim. pairs-skip _ _ _ _ _ (head .loop .k) l stop t lim _ (inv .2 l stop t lim) (turn .loop-test .taken) _ found (near .reached .ensures .1)
           (leb-false _ _ (sym (near .reached .ensures .0) ∙ tested .if1 .left))
           (λ e. c .if2 .left (c .before .way-at .ensures ∙ e)),
     )

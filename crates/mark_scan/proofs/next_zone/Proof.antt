@@ -53,7 +53,7 @@ loop-again c =
     let got = at-call .bars-behind .ensures in (
       omega arith,
       rw (c .fewer .ensures)
-      (zones-next _ _ _ _ (head .loop .least) _ (head .loop .i) (in-loop .loop-test .taken) (got .1 .0) (got .1 .1) (got .0) (head .loop .inv .1)),
+          (zones-next _ _ _ _ (head .loop .least) _ (head .loop .i) (in-loop .loop-test .taken) (got .1 .0) (got .1 .1) (got .0) (head .loop .inv .1)),
     )
 
 sub-if1 : tie.Need-sub-if1 Inv-loop μ-loop

@@ -1,5 +1,5 @@
 -- `mark_scan::start_of` meets its contract. The invariant: the bigs from place k on are left to look at. Assumes nothing.
-use Prim.Native.Nat.{suc, _+_, _-_, _≤_}
+use Prim.Native.Nat.{suc, _+_, _-_, _<_, _≤_}
 use native.Mathlib.Omega.{arith}
 use mathlib.Core.Path.{_≡_, refl, sym, _∙_}
 use lib.ListN.{drop}
@@ -19,6 +19,10 @@ Inv-loop bars prices m first last e end k₀ k =
 
 abbrev μ-loop : tie.MeasureT-loop
 μ-loop bars prices m first last e end k₀ k = end - k
+
+-- the place of this turn is below both `last + 1` and m
+within : (c : tie.In-loop Inv-loop μ-loop) → (c .before .loop .k < suc (c .before .before .before .args .last)) × (c .before .loop .k < c .before .before .before .args .m)
+within c = (omega (arith, c .before .loop .inv .2, c .loop-test .taken), omega (arith, c .before .loop .inv .0, c .loop-test .taken))
 
 add-at-most : tie.Need-add-at-most Inv-loop μ-loop
 add-at-most c = search needs
@@ -50,7 +54,8 @@ loop-again c =
     let turn = read .before in
     let head = turn .before in
     let inv = head .loop .inv in
-    (inv .0, inv .1, inv .2, λ l t. start-missing _ _ _ _ _ (head .loop .k) l t _ (inv .3 l t) (omega (arith, inv .2, turn .loop-test .taken)) (omega (arith, inv .0, turn .loop-test .taken)) (sym (read .range-at .ensures) ∙ c .enum-told .given .1))
+    let missing = sym (read .range-at .ensures) ∙ c .enum-told .given .1 in
+    (inv .0, inv .1, inv .2, λ l t. start-missing _ _ _ _ _ (head .loop .k) l t _ (inv .3 l t) (within turn .0) (within turn .1) missing)
 
 returns : tie.Need-returns Inv-loop μ-loop
 returns c =
@@ -59,7 +64,10 @@ returns c =
     let turn = read .before in
     let head = turn .before in
     let inv = head .loop .inv in
-    (omega (arith, inv .0, turn .loop-test .taken), λ l t. start-here _ _ _ _ _ (head .loop .k) l t _ (inv .3 l t) (omega (arith, inv .2, turn .loop-test .taken)) (omega (arith, inv .0, turn .loop-test .taken)) _ (sym (read .range-at .ensures) ∙ span .span .given .1) (c .if1 .taken))
+    let found = sym (read .range-at .ensures) ∙ span .span .given .1 in (
+      omega (arith, within turn .1),
+      λ l t. start-here _ _ _ _ _ (head .loop .k) l t _ (inv .3 l t) (within turn .0) (within turn .1) _ found (c .if1 .taken),
+    )
 
 loop-less-2 : tie.Need-loop-less-2 Inv-loop μ-loop
 loop-less-2 c = search needs
@@ -71,7 +79,8 @@ loop-again-2 c =
     let turn = read .before in
     let head = turn .before in
     let inv = head .loop .inv in
-    (inv .0, inv .1, inv .2, λ l t. start-pass _ _ _ _ _ (head .loop .k) l t _ (inv .3 l t) (omega (arith, inv .2, turn .loop-test .taken)) (omega (arith, inv .0, turn .loop-test .taken)) _ (sym (read .range-at .ensures) ∙ span .span .given .1) (c .if1 .left))
+    let found = sym (read .range-at .ensures) ∙ span .span .given .1 in
+    (inv .0, inv .1, inv .2, λ l t. start-pass _ _ _ _ _ (head .loop .k) l t _ (inv .3 l t) (within turn .0) (within turn .1) _ found (c .if1 .left))
 
 at-most-requires-2 : tie.Need-at-most-requires-2 Inv-loop μ-loop
 at-most-requires-2 c κs = search needs
