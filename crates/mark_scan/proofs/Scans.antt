@@ -1,9 +1,9 @@
 -- The scan of one zone, the scans of all, and what their table tells. Assumes nothing.
-use Prim.Native.Nat.{ℕ, suc, _+_, _-_, _<_, _≤_, min}
+use Prim.Native.Nat.{ℕ, _+_, _<_, _≤_, min}
 use native.Mathlib.Omega.{arith}
 use native.Mathlib.Numerals.{add-one}
 use mathlib.Core.Path.{_≡_, refl, sym, ap, _∙_}
-use mathlib.Core.Bool.{Bool, true, false, _||_}
+use mathlib.Core.Bool.{Bool, true, false}
 use mathlib.Core.List.{List, [], _∷_}
 use mathlib.Core.Option.{Option, none, some}
 use lib.ListN.{length, getD, getElem?, set, drop}
@@ -12,15 +12,14 @@ use lib.Dec.{eqb, leb}
 use lib.Ieee.{Float}
 use borrow.Author.Tests.{lt-leb, eqb-true, eqb-false}
 use Rattle.chart.specs.declared.Stroke.{Stroke}
-use Rattle.chart.specs.declared.Triple.{Triple}
 use Rattle.chart.specs.declared.Zone.{Zone}
 use Rattle.rules.specs.Records.{Levels}
-use Rattle.rules.specs.Marks.{superiorOf, reachesZone, reversal, reaches, stops}
+use Rattle.rules.specs.Marks.{superiorOf, reversal, reaches, stops}
 use Rattle.rules.specs.Zones.{overlapZones}
 use Rattle.laws.proofs.Lists.{all-at, at-getD, lt-at, at-lt}
 use Rattle.laws.proofs.Owned.{zones-owned}
 use Rattle.tables.specs.declared.Counts.{Counts}
-use Rattle.tables.specs.Tables.{Sups, Tables, tripleIn}
+use Rattle.tables.specs.Tables.{Sups, Tables}
 use Rattle.tables.proofs.Sups.{triple-is}
 use Rattle.tables.proofs.Zones.{no-zone, owner-of, end-of}
 use Rattle.mark_scan.specs.declared.Scan.{Scan}
