@@ -14,7 +14,7 @@ use chart::Zone;
 ghost use mathlib.Core.Path.{_≡_};
 ghost use mathlib.Core.Bool.{false};
 ghost use mathlib.Core.List.{[]};
-ghost use Prim.Native.Nat.{_≤_, _<_};
+ghost use Prim.Native.Nat.{_≤_, _<_, min};
 ghost use lib.ListN.{length, getD};
 ghost use Rattle.chart.specs.declared.Stroke.{Stroke};
 ghost use Rattle.chart.specs.Table.{pointOf};
@@ -29,6 +29,20 @@ pub struct Counts {
     pub bigs: usize,
     pub superiors: usize,
     pub zones: usize,
+}
+
+// A number of a table as a place.
+pub fn wide(x: u16) -> usize
+    ensures { λ r. ⌜ (r ≡ x) × (r < 0x1_0000) ⌝ }
+{
+    x as usize
+}
+
+// The smaller of two.
+pub fn at_most(n: usize, m: usize) -> usize
+    ensures { λ r. ⌜ r ≡ min n m ⌝ }
+{
+    if n < m { n } else { m }
 }
 
 // ---- bigs

@@ -166,13 +166,6 @@ fn owner_zones(
     count + 1
 }
 
-// A number of a table as an index.
-fn wide(x: u16) -> usize
-    ensures { λ r. ⌜ r ≡ x ⌝ }
-{
-    x as usize
-}
-
 // The zones of the n owners over the level of m records in the tables; how many they are, and 257 where there are more than 256.
 pub fn overlap(
     sups: &[[u16; 5]; 256],
@@ -193,7 +186,7 @@ pub fn overlap(
         let owner = sups[h];
         let i = h as u16;
         h += 1;
-        if m <= wide(owner[2]) {
+        if m <= tables::wide(owner[2]) {
             continue;
         }
         count = owner_zones(i, owner, bars, prices, count, zb, zp);
