@@ -2,14 +2,14 @@
 use Prim.Native.Nat.{ℕ, zero, suc, _+_, _*_, _/_, _%_, _<_, _≤_}
 use mathlib.Core.Path.{_≡_}
 use mathlib.Core.Bool.{Bool, cond, not}
-use mathlib.Core.List.{List, [], _∷_, foldl, List·Memᴰ}
+use mathlib.Core.List.{List, [], _∷_, map, foldl, List·Memᴰ}
 use lib.ListN.{length, take}
 use lib.Dec.{eqb}
 use Rattle.chart.specs.declared.ThirdMark.{ThirdMark}
 use Rattle.chart.specs.declared.NMark.{NMark}
 use Rattle.rules.specs.Lists.{any, keep, behind}
 use Rattle.rules.specs.Records.{Quotes}
-use Rattle.rules.specs.Marks.{markAt, numbered, push3N}
+use Rattle.rules.specs.Marks.{markAt, numbered, zeroAt, push3N}
 use Rattle.laws.specs.Lists.{All, Distinct}
 
 -- the bar and the side of a mark, as one number, and back from it
@@ -49,6 +49,34 @@ pub record Grown (n : ℕ) (keys orders : List ℕ) (r : ℕ) (keys' orders' : L
   pub stay : take n keys' ≡ take n keys
   pub long : length keys' ≡ length keys
   pub wide : length orders' ≡ length orders
+
+-- from n rows to r, these marks are pushed one after the other
+abbrev pub Gathered : Quotes → List NMark → ℕ → List ℕ → List ℕ → ℕ → List ℕ → List ℕ → Type 0
+Gathered q ms n keys orders r keys' orders' =
+    marksIn q (take r keys') (take r orders') ≡ foldl push3N (marksIn q (take n keys) (take n orders)) ms
+
+-- from n rows to r, the mark of this key and order is pushed
+abbrev pub Pushes : ℕ → ℕ → ℕ → List ℕ → List ℕ → ℕ → List ℕ → List ℕ → Type 0
+Pushes key order n keys orders r keys' orders' = (q : Quotes) → Gathered q (markIn q key order ∷ []) n keys orders r keys' orders'
+
+-- room for n keys among ends of which P holds is room for r afterwards
+abbrev pub KeepsRoom : (List ℕ → Type 0) → List ℕ → ℕ → List ℕ → ℕ → Type 0
+KeepsRoom P keys n keys' r = (ends : List ℕ) → Room ends keys n → P ends → Room ends keys' r
+
+-- these bars are among the ends
+abbrev pub Among : List ℕ → List ℕ → Type 0
+Among bars ends = All (λ (b : ℕ). List·Memᴰ b ends) bars
+
+-- The marks that a superior's bars get by these order-0 marks: those behind the first bar that has one, without the others that have one,
+-- are numbered from 1 on
+abbrev pub barMarks : Quotes → List ThirdMark → Bool → List ℕ → List NMark
+barMarks q thirds buy bars = numbered q buy 1 (keep (λ (b : ℕ). not (zeroAt thirds buy b)) (behind (zeroAt thirds buy) bars))
+
+-- from n rows to r, the marks of these bars are pushed, where the first `zeros` rows are the order-0 marks
+abbrev pub NumbersBars : List ℕ → Bool → ℕ → ℕ → List ℕ → List ℕ → ℕ → List ℕ → List ℕ → Type 0
+NumbersBars bars buy zeros n keys orders r keys' orders' =
+    (q : Quotes) (thirds : List ThirdMark) → take zeros keys ≡ map rowKey thirds
+    → Gathered q (barMarks q thirds buy bars) n keys orders r keys' orders'
 
 -- The marks that these bars of a superior get, where `at0` tells which have an order-0 mark: next is the order of the next one, and 0 as
 -- long as no order-0 mark was met

@@ -2,18 +2,16 @@
 // its key and its order, in the first places of two lent columns.
 use chart::NMark;
 ghost use mathlib.Core.Path.{_≡_};
-ghost use mathlib.Core.Bool.{cond, not};
-ghost use mathlib.Core.List.{List, _∷_, _++_, map, foldl, List·Memᴰ};
+ghost use mathlib.Core.Bool.{cond};
+ghost use mathlib.Core.List.{List, _∷_, _++_, List·Memᴰ};
 ghost use Prim.Native.Nat.{ℕ, _+_, _≤_, _<_};
 ghost use lib.ListN.{length, take, drop};
 ghost use lib.Dec.{eqb, leb, ltb};
-ghost use Rattle.chart.specs.declared.ThirdMark.{ThirdMark};
 ghost use Rattle.rules.specs.Answer.{rowsAnswer, given};
-ghost use Rattle.rules.specs.Lists.{before, behind, keep};
-ghost use Rattle.rules.specs.Records.{Quotes};
-ghost use Rattle.rules.specs.Marks.{priceAt, numbered, insertBar, zeroAt, push3N};
+ghost use Rattle.rules.specs.Lists.{before};
+ghost use Rattle.rules.specs.Marks.{priceAt, insertBar};
 ghost use Rattle.laws.specs.Lists.{All, Distinct, Rising};
-ghost use Rattle.numbering.specs.Rows.{keyOf, barIn, rowKey, markIn, marksIn, Room, Grown, NumbersBar};
+ghost use Rattle.numbering.specs.Rows.{keyOf, barIn, markIn, marksIn, Room, Grown, Pushes, KeepsRoom, Among, NumbersBar, NumbersBars};
 
 // ---- keys
 
@@ -57,8 +55,8 @@ fn smaller(new: u32, old: u32) -> u32
 fn put_row(keys: &mut [u32], orders: &mut [u32], n: usize, key: u32, order: u32, i: usize) -> usize
     requires { ⌜ (n ≤ 512) × (513 ≤ length (now keys)) × (513 ≤ length (now orders)) ⌝ }
     requires { ⌜ i ≡ length (before (λ (k : ℕ). eqb k key) (take n (now keys))) ⌝ }
-    ensures { λ r. ⌜ ((q : Quotes) → marksIn q (take r (now (keys .exit))) (take r (now (orders .exit))) ≡ push3N (marksIn q (take n (now (keys .entry))) (take n (now (orders .entry)))) (markIn q key order)) ⌝ }
-    ensures { λ r. ⌜ ((ends : List ℕ) → Room ends (now (keys .entry)) n → List·Memᴰ (barIn key) ends → Room ends (now (keys .exit)) r) ⌝ }
+    ensures { λ r. ⌜ Pushes key order n (now (keys .entry)) (now (orders .entry)) r (now (keys .exit)) (now (orders .exit)) ⌝ }
+    ensures { λ r. ⌜ KeepsRoom (List·Memᴰ (barIn key)) (now (keys .entry)) n (now (keys .exit)) r ⌝ }
     ensures { λ r. ⌜ Grown n (now (keys .entry)) (now (orders .entry)) r (now (keys .exit)) (now (orders .exit)) ⌝ }
 {
     if i < n {
@@ -73,8 +71,8 @@ fn put_row(keys: &mut [u32], orders: &mut [u32], n: usize, key: u32, order: u32,
 // A mark's row is put at its place, which a search finds.
 pub fn push_3n(keys: &mut [u32], orders: &mut [u32], n: usize, key: u32, order: u32) -> usize
     requires { ⌜ (n ≤ 512) × (513 ≤ length (now keys)) × (513 ≤ length (now orders)) ⌝ }
-    ensures { λ r. ⌜ ((q : Quotes) → marksIn q (take r (now (keys .exit))) (take r (now (orders .exit))) ≡ push3N (marksIn q (take n (now (keys .entry))) (take n (now (orders .entry)))) (markIn q key order)) ⌝ }
-    ensures { λ r. ⌜ ((ends : List ℕ) → Room ends (now (keys .entry)) n → List·Memᴰ (barIn key) ends → Room ends (now (keys .exit)) r) ⌝ }
+    ensures { λ r. ⌜ Pushes key order n (now (keys .entry)) (now (orders .entry)) r (now (keys .exit)) (now (orders .exit)) ⌝ }
+    ensures { λ r. ⌜ KeepsRoom (List·Memᴰ (barIn key)) (now (keys .entry)) n (now (keys .exit)) r ⌝ }
     ensures { λ r. ⌜ Grown n (now (keys .entry)) (now (orders .entry)) r (now (keys .exit)) (now (orders .exit)) ⌝ }
 {
     let i = place_of(keys, n, key);
@@ -110,8 +108,8 @@ pub fn push_near(
     near: usize,
 ) -> Pushed
     requires { ⌜ (n ≤ 512) × (513 ≤ length (now keys)) × (513 ≤ length (now orders)) × Distinct (take n (now keys)) ⌝ }
-    ensures { λ r. ⌜ ((q : Quotes) → marksIn q (take (r .count) (now (keys .exit))) (take (r .count) (now (orders .exit))) ≡ push3N (marksIn q (take n (now (keys .entry))) (take n (now (orders .entry)))) (markIn q key order)) ⌝ }
-    ensures { λ r. ⌜ ((ends : List ℕ) → Room ends (now (keys .entry)) n → List·Memᴰ (barIn key) ends → Room ends (now (keys .exit)) (r .count)) ⌝ }
+    ensures { λ r. ⌜ Pushes key order n (now (keys .entry)) (now (orders .entry)) (r .count) (now (keys .exit)) (now (orders .exit)) ⌝ }
+    ensures { λ r. ⌜ KeepsRoom (List·Memᴰ (barIn key)) (now (keys .entry)) n (now (keys .exit)) (r .count) ⌝ }
     ensures { λ r. ⌜ Grown n (now (keys .entry)) (now (orders .entry)) (r .count) (now (keys .exit)) (now (orders .exit)) ⌝ }
 {
     let place = place_near(keys, n, key, near);
@@ -245,9 +243,9 @@ pub fn number_bars(
     n: usize,
 ) -> usize
     requires { ⌜ (k ≤ length (now bars)) × (k ≤ 0x1_0000) × (zeros ≤ n) × (513 ≤ length (now keys)) × (513 ≤ length (now orders)) ⌝ }
-    requires { ⌜ ((ends : List ℕ) × Room ends (now keys) n × All (λ (b : ℕ). List·Memᴰ b ends) (take k (now bars))) ⌝ }
-    ensures { λ r. ⌜ ((q : Quotes) (thirds : List ThirdMark) → take zeros (now (keys .entry)) ≡ map rowKey thirds → marksIn q (take r (now (keys .exit))) (take r (now (orders .exit))) ≡ foldl push3N (marksIn q (take n (now (keys .entry))) (take n (now (orders .entry)))) (numbered q buy 1 (keep (λ (b : ℕ). not (zeroAt thirds buy b)) (behind (zeroAt thirds buy) (take k (now (bars .entry))))))) ⌝ }
-    ensures { λ r. ⌜ ((ends : List ℕ) → Room ends (now (keys .entry)) n → All (λ (b : ℕ). List·Memᴰ b ends) (take k (now (bars .entry))) → Room ends (now (keys .exit)) r) ⌝ }
+    requires { ⌜ ((ends : List ℕ) × Room ends (now keys) n × Among (take k (now bars)) ends) ⌝ }
+    ensures { λ r. ⌜ NumbersBars (take k (now (bars .entry))) buy zeros n (now (keys .entry)) (now (orders .entry)) r (now (keys .exit)) (now (orders .exit)) ⌝ }
+    ensures { λ r. ⌜ KeepsRoom (Among (take k (now (bars .entry)))) (now (keys .entry)) n (now (keys .exit)) r ⌝ }
     ensures { λ r. ⌜ Grown n (now (keys .entry)) (now (orders .entry)) r (now (keys .exit)) (now (orders .exit)) ⌝ }
 {
     let mut next = 0u32;
@@ -302,7 +300,8 @@ fn row_of(key: u32, order: u32, highs: &[f64], lows: &[f64]) -> NMark
 pub fn rows_of(keys: &[u32], orders: &[u32], n: usize, highs: &[f64], lows: &[f64]) -> NRows
     requires { ⌜ (n ≤ 512) × (n ≤ length (now keys)) × (n ≤ length (now orders)) × (length (now highs) ≤ 0x1_0000) ⌝ }
     requires { ⌜ All (λ (k : ℕ). (barIn k < length (now highs)) × (barIn k < length (now lows))) (take n (now keys)) ⌝ }
-    ensures { λ r. ⌜ rowsAnswer (r .number) (r .count) (r .rows) ≡ given (marksIn (record { highs = now (highs .entry); lows = now (lows .entry) }) (take n (now (keys .entry))) (take n (now (orders .entry)))) ⌝ }
+    ensures { λ r. ⌜ rowsAnswer (r .number) (r .count) (r .rows)
+        ≡ given (marksIn (record { highs = now (highs .entry); lows = now (lows .entry) }) (take n (now (keys .entry))) (take n (now (orders .entry)))) ⌝ }
 {
     let none = NMark {
         bar_index: 0,
