@@ -244,7 +244,8 @@ pub fn number_bars(
 ) -> usize
     requires { ⌜ (k ≤ length (now bars)) × (k ≤ 0x1_0000) × (zeros ≤ n) × (513 ≤ length (now keys)) × (513 ≤ length (now orders)) ⌝ }
     requires { ⌜ ((ends : List ℕ) × Room ends (now keys) n × Among (take k (now bars)) ends) ⌝ }
-    ensures { λ r. ⌜ NumbersBars (take k (now (bars .entry))) buy zeros n (now (keys .entry)) (now (orders .entry)) r (now (keys .exit)) (now (orders .exit)) ⌝ }
+    ensures { λ r. ⌜ NumbersBars (take k (now (bars .entry))) buy zeros n (now (keys .entry)) (now (orders .entry))
+        r (now (keys .exit)) (now (orders .exit)) ⌝ }
     ensures { λ r. ⌜ KeepsRoom (Among (take k (now (bars .entry)))) (now (keys .entry)) n (now (keys .exit)) r ⌝ }
     ensures { λ r. ⌜ Grown n (now (keys .entry)) (now (orders .entry)) r (now (keys .exit)) (now (orders .exit)) ⌝ }
 {
