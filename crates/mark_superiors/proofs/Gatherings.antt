@@ -1,0 +1,155 @@
+-- The bars of a superior's zones, one zone after the other. Assumes nothing.
+use Prim.Native.Nat.{ℕ, zero, suc, _+_, _<_, _≤_}
+use native.Mathlib.Omega.{arith}
+use native.Mathlib.Numerals.{add-one}
+use mathlib.Core.Path.{_≡_, refl, sym, ap, subst, _∙_}
+use mathlib.Core.Bool.{Bool}
+use mathlib.Core.List.{List, [], _∷_, _++_, foldl, foldl-append}
+use mathlib.Core.Option.{some}
+use lib.ListN.{length, getD, getElem?, take, drop, drop-of-length-le}
+use lib.Ieee.{Float}
+use lib.Dec.{leb}
+use Rattle.chart.specs.declared.Zone.{Zone}
+use Rattle.rules.specs.Lists.{each}
+use Rattle.rules.specs.Records.{Levels}
+use Rattle.rules.specs.Zones.{overlapZones}
+use Rattle.rules.specs.Marks.{pairEnds, scanned, insertBar}
+use Rattle.laws.proofs.Lists.{All, lt-at, at-drop, all-at, all-right}
+use Rattle.laws.specs.Lists.{endBars}
+use Rattle.tables.specs.declared.Counts.{Counts}
+use Rattle.mark_scan.specs.declared.Scan.{Scan}
+use Rattle.mark_scan.specs.Scan.{Limits, ZoneScan, scanIn, Scanned}
+use Rattle.mark_superiors.specs.Superiors.{RisingAmong, PutsPairs, Block, TakesBlock}
+use Rattle.mark_superiors.proofs.Meetings.{among-more, pairs-end}
+
+-- what is left of a list from place i on: its element there, and those behind it
+front : (i : ℕ) (l : List Zone) (x : Zone) (xs : List Zone) → drop i l ≡ x ∷ xs → (getElem? l i ≡ some x) × (drop (suc i) l ≡ xs)
+front zero [] x xs e = absurd (omega (arith, ap (λ (m : List Zone). length m) e))
+front zero (y ∷ l) x xs e = (cc, cc)
+front (suc i) [] x xs e = absurd (omega (arith, ap (λ (m : List Zone). length m) e))
+front (suc i) (y ∷ l) x xs e = front i l x xs e
+
+-- a zone's scan by its row
+scanned-by :
+    (c : Levels) (zs : List Zone) (z : Zone) (s : Scan) → ZoneScan c zs z s → (l : List ℕ) (g : List ℕ → List ℕ)
+    → ((stop : ℕ → Bool) → Limits (s .limit) stop → l ≡ g (pairEnds c stop (s .direction) (drop (s .from) (c .bigs)))) → l ≡ g (scanned c zs z)
+unfolding scanned
+scanned-by c zs z s scan l g e = rw (scanned, scan .begins, scan .way) (e _ (scan .ends))
+
+-- of a superior's own zones these are left at place i
+pub record Left (c : Levels) (h : ℕ) (own later : List Zone) (out : List ℕ) (k i : ℕ) : Type 0 where
+  pub rest : List Zone
+  pub block : Block c h i rest later
+  pub bars :
+      foldl insertBar (take k out) (each (scanned c (overlapZones c)) rest) ≡ foldl insertBar [] (each (scanned c (overlapZones c)) own)
+
+-- of superior h's zones, which stand from place `from` on, those before place i are gathered
+pub record Gathering
+    (h : ℕ) (scans : List (List ℕ)) (n : Counts) (from : ℕ) (bars : List (List ℕ)) (prices : List (List Float)) (out : List ℕ) (k i : ℕ) : Type 0
+  where
+    pub wide : length out ≡ 257
+    pub low : k ≤ 257
+    pub among :
+        (c : Levels) (sups : List (List ℕ)) → Scanned c n bars prices sups scans → RisingAmong (endBars c) [] → RisingAmong (endBars c) (take k out)
+    pub left :
+        (c : Levels) (sups : List (List ℕ)) (own later : List Zone) → Scanned c n bars prices sups scans → Block c h from own later
+        → Left c h own later out k i
+
+module _ (h : ℕ) (scans : List (List ℕ)) (n : Counts) (from : ℕ) (bars : List (List ℕ)) (prices : List (List Float)) where
+  pub gathering-first : (out : List ℕ) → length out ≡ 257 → Gathering h scans n from bars prices out 0 from
+  gathering-first out w =
+      record {
+        wide = w;
+        low = omega arith;
+        among = λ c sups s a. a;
+        left = λ c sups own later s b. record { rest = own; block = b; bars = refl };
+      }
+
+  module _ (out : List ℕ) (k i : ℕ) (so-far : Gathering h scans n from bars prices out k i) where
+    -- where none of the superior's own is left
+    done :
+        (c : Levels) (own later : List Zone) (l : Left c h own later out k i) → l .rest ≡ []
+        → (take k out ≡ foldl insertBar [] (each (scanned c (overlapZones c)) own)) × (drop i (overlapZones c) ≡ later)
+    done c own later l e = (rw e at (l .bars), rw e at (l .block .stand))
+
+    -- no zone is left
+    pub gathering-over : n .zones ≤ i → TakesBlock h n bars prices scans from k i out
+    gathering-over over c sups own later s b = go (l .rest) refl
+      where
+        l : Left c h own later out k i
+        l = so-far .left c sups own later s b
+
+        go :
+            (rest : List Zone) → l .rest ≡ rest
+            → (take k out ≡ foldl insertBar [] (each (scanned c (overlapZones c)) own)) × (drop i (overlapZones c) ≡ later)
+        go [] e = done c own later l e
+        go (z ∷ rest) e =
+            let none = drop-of-length-le (overlapZones c) {i = i} (omega (arith, s .scans .count)) in
+            absurd (omega (arith, ap (λ (m : List Zone). length m) (sym none ∙ (rw e at (l .block .stand)))))
+
+    -- the scan that is read at place i
+    module _ (scan : Scan) (read : scan ≡ scanIn (getD scans i [])) where
+      by-row :
+          (c : Levels) (sups : List (List ℕ)) → Scanned c n bars prices sups scans → (z : Zone) → getElem? (overlapZones c) i ≡ some z
+          → ZoneScan c (overlapZones c) z scan
+      by-row c sups s z e = subst (ZoneScan c (overlapZones c) z) (sym read) (s .scans .are i z e)
+
+      -- a zone of another superior
+      pub gathering-other : (scan .superior ≡ h → ⊥) → TakesBlock h n bars prices scans from k i out
+      gathering-other other c sups own later s b = go (l .rest) refl
+        where
+          l : Left c h own later out k i
+          l = so-far .left c sups own later s b
+
+          go :
+              (rest : List Zone) → l .rest ≡ rest
+              → (take k out ≡ foldl insertBar [] (each (scanned c (overlapZones c)) own)) × (drop i (overlapZones c) ≡ later)
+          go [] e = done c own later l e
+          go (z ∷ rest) e =
+              let there = front i (overlapZones c) z (rest ++ later) (rw e at (l .block .stand)) in
+              let mine = by-row c sups s z (there .0) .own in
+              absurd (other (sym mine ∙ all-at 0 z (rw e at (l .block .owned)) refl))
+
+      -- a zone of this one, whose bars are put in
+      module _ (more : i < n .zones) (mine : scan .superior ≡ h) (r : ℕ) (out' : List ℕ) (put : PutsPairs (n .bigs) bars prices scan k out r out') where
+        left-next :
+            (c : Levels) (sups : List (List ℕ)) (own later : List Zone) → Scanned c n bars prices sups scans → Left c h own later out k i
+            → Left c h own later out' r (i + 1)
+        left-next c sups own later s l = go (l .rest) (l .block) (l .bars)
+          where
+            go :
+                (rest : List Zone) → Block c h i rest later
+                → foldl insertBar (take k out) (each (scanned c (overlapZones c)) rest) ≡ foldl insertBar [] (each (scanned c (overlapZones c)) own)
+                → Left c h own later out' r (i + 1)
+            go [] b e =
+                let z = lt-at (overlapZones c) i (omega (arith, s .scans .count)) in
+                let same : i + 0 ≡ i = omega arith in
+                let first = (rw same at (at-drop i 0 (overlapZones c))) ∙ z .1 in
+                let up = all-at 0 (z .0) (subst (All (λ (y : Zone). h < y .«sup_idx»)) (sym (b .stand)) (b .above)) first in
+                let named = by-row c sups s (z .0) (z .1) .own in
+                absurd (omega arith)
+            go (z ∷ rest) b e =
+                let behind = each (scanned c (overlapZones c)) rest in
+                let there = front i (overlapZones c) z (rest ++ later) (b .stand) in
+                let its = by-row c sups s z (there .0) in
+                let met = scanned-by c (overlapZones c) z scan its (take r out') (foldl insertBar (take k out)) (λ stop lim. put c stop (s .bigs) lim) in
+                record {
+                  rest = rest;
+                  block = record { stand = rw (add-one i) (there .1); owned = all-right (z ∷ []) rest (b .owned); above = b .above };
+                  bars =
+                      ap (λ (l : List ℕ). foldl insertBar l behind) met
+                      ∙ sym (foldl-append insertBar (take k out) (scanned c (overlapZones c) z) behind)
+                      ∙ e;
+                }
+
+        pub gathering-next : r ≤ 257 → length out' ≡ 257 → Gathering h scans n from bars prices out' r (i + 1)
+        gathering-next low wide =
+            record {
+              wide = wide;
+              low = low;
+              among =
+                  λ c sups s a.
+                  subst (RisingAmong (endBars c)) (sym (put c (leb (scan .limit)) (s .bigs) (λ b l. refl)))
+                  (among-more (endBars c) (take k out) _ (so-far .among c sups s a) (pairs-end c (leb (scan .limit)) (scan .direction) (scan .from)));
+              left = λ c sups own later s b. left-next c sups own later s (so-far .left c sups own later s b);
+            }

@@ -1,0 +1,4 @@
+pub mod Standing
+pub mod Meetings
+pub mod Gatherings
+pub mod Rowings
