@@ -66,26 +66,25 @@ module _ (h : ℕ) (scans : List (List ℕ)) (n : Counts) (from : ℕ) (bars : L
       }
 
   module _ (out : List ℕ) (k i : ℕ) (so-far : Gathering h scans n from bars prices out k i) where
-    -- where none of the superior's own is left
+    -- where none of the superior's own can be left
     done :
-        (c : Levels) (own later : List Zone) (l : Left c h own later out k i) → l .rest ≡ []
-        → (take k out ≡ foldl insertBar [] (each (scanned c (overlapZones c)) own)) × (drop i (overlapZones c) ≡ later)
-    done c own later l e = (rw e at (l .bars), rw e at (l .block .stand))
+        ((c : Levels) (sups : List (List ℕ)) (z : Zone) (rest later : List Zone) → Scanned c n bars prices sups scans → Block c h i (z ∷ rest) later → ⊥)
+        → TakesBlock h n bars prices scans from k i out
+    done no-more c sups own later s b = let l = so-far .left c sups own later s b in go (l .rest) (l .block) (l .bars)
+      where
+        go :
+            (rest : List Zone) → Block c h i rest later
+            → foldl insertBar (take k out) (each (scanned c (overlapZones c)) rest) ≡ foldl insertBar [] (each (scanned c (overlapZones c)) own)
+            → (take k out ≡ foldl insertBar [] (each (scanned c (overlapZones c)) own)) × (drop i (overlapZones c) ≡ later)
+        go [] left e = (e, left .stand)
+        go (z ∷ rest) left e = absurd (no-more c sups z rest later s left)
 
     -- no zone is left
     pub gathering-over : n .zones ≤ i → TakesBlock h n bars prices scans from k i out
-    gathering-over over c sups own later s b = go (l .rest) refl
-      where
-        l : Left c h own later out k i
-        l = so-far .left c sups own later s b
-
-        go :
-            (rest : List Zone) → l .rest ≡ rest
-            → (take k out ≡ foldl insertBar [] (each (scanned c (overlapZones c)) own)) × (drop i (overlapZones c) ≡ later)
-        go [] e = done c own later l e
-        go (z ∷ rest) e =
-            let none = drop-of-length-le (overlapZones c) {i = i} (omega (arith, s .scans .count)) in
-            absurd (omega (arith, ap (λ (m : List Zone). length m) (sym none ∙ (rw e at (l .block .stand)))))
+    gathering-over over =
+        done (λ c sups z rest later s b.
+        let none = drop-of-length-le (overlapZones c) {i = i} (omega (arith, s .scans .count)) in
+        omega (arith, ap (λ (m : List Zone). length m) (sym none ∙ b .stand)))
 
     -- the scan that is read at place i
     module _ (scan : Scan) (read : scan ≡ scanIn (getD scans i [])) where
@@ -96,19 +95,10 @@ module _ (h : ℕ) (scans : List (List ℕ)) (n : Counts) (from : ℕ) (bars : L
 
       -- a zone of another superior
       pub gathering-other : (scan .superior ≡ h → ⊥) → TakesBlock h n bars prices scans from k i out
-      gathering-other other c sups own later s b = go (l .rest) refl
-        where
-          l : Left c h own later out k i
-          l = so-far .left c sups own later s b
-
-          go :
-              (rest : List Zone) → l .rest ≡ rest
-              → (take k out ≡ foldl insertBar [] (each (scanned c (overlapZones c)) own)) × (drop i (overlapZones c) ≡ later)
-          go [] e = done c own later l e
-          go (z ∷ rest) e =
-              let there = front i (overlapZones c) z (rest ++ later) (rw e at (l .block .stand)) in
-              let mine = by-row c sups s z (there .0) .own in
-              absurd (other (sym mine ∙ all-at 0 z (rw e at (l .block .owned)) refl))
+      gathering-other other =
+          done (λ c sups z rest later s b.
+          let there = front i (overlapZones c) z (rest ++ later) (b .stand) in
+          other (sym (by-row c sups s z (there .0) .own) ∙ all-at 0 z (b .owned) refl))
 
       -- a zone of this one, whose bars are put in
       module _ (more : i < n .zones) (mine : scan .superior ≡ h) (r : ℕ) (out' : List ℕ) (put : PutsPairs (n .bigs) bars prices scan k out r out') where

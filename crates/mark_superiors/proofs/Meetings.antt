@@ -10,7 +10,7 @@ use lib.Ieee.{Float}
 use lib.Dec.{leb}
 use Rattle.rules.specs.Records.{Levels}
 use Rattle.rules.specs.Marks.{pairEnds, insertBar}
-use Rattle.laws.proofs.Lists.{All, nil, cons, none-left, all-drop, all-in, sorted-map}
+use Rattle.laws.proofs.Lists.{nil, cons, none-left, all-drop, all-in, sorted-map}
 use Rattle.laws.proofs.Keys.{pigeonhole}
 use Rattle.laws.specs.Lists.{endBars}
 use Rattle.laws.proofs.Room.{inserts-all, pairs-all, ends-there}

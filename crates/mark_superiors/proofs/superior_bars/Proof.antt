@@ -1,7 +1,6 @@
 -- `mark_superiors::superior_bars` meets its contract. The invariant: the bars so far, with those of the superior's zones that are left put
 -- in, come to all. Assumes nothing.
 use Prim.Native.Nat.{_-_}
-use native.Mathlib.Omega.{arith}
 use borrow.Author.Needs.{needs}
 use Rattle.mark_superiors.proofs.Gatherings.{Gathering, gathering-first, gathering-over, gathering-other, gathering-next}
 use Rattle.mark_superiors.proofs.superior_bars.Statement.{statement}

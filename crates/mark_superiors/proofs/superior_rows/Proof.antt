@@ -72,7 +72,7 @@ number-bars-requires c κs =
       (
         omega (arith, got .0),
         omega (arith, got .0),
-        inv .grown .more,
+        omega (arith, inv .grown .more),
         omega (arith, inv .grown .long, pre .0 .1),
         omega (arith, inv .grown .wide, pre .0 .2),
       ),

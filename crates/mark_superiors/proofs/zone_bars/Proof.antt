@@ -59,7 +59,8 @@ cast-insert-bar c =
     let told = c .before .before in
     let found = told .before .before in
     let pair = found .next-pair in
-    let within = pair-within _ _ _ _ _ _ _ _ _ (head found .loop .at) (head found .loop .inv) (pair .result) (pair .ensures .0) (pair .ensures .1) _ _ (told .pair .given .1) in
+    let within = pair-within _ _ _ _ _ _ _ _ _ (head found .loop .at) (head found .loop .inv)
+    (pair .result) (pair .ensures .0) (pair .ensures .1) _ _ (told .pair .given .1) in
     let below = within .2 in
     search needs
 
@@ -75,7 +76,8 @@ loop-less c =
     let told = c .before .before .before .before .before in
     let found = told .before .before in
     let pair = found .next-pair in
-    let later = pair-within _ _ _ _ _ _ _ _ _ (head found .loop .at) (head found .loop .inv) (pair .result) (pair .ensures .0) (pair .ensures .1) _ _ (told .pair .given .1) in
+    let later = pair-within _ _ _ _ _ _ _ _ _ (head found .loop .at) (head found .loop .inv)
+    (pair .result) (pair .ensures .0) (pair .ensures .1) _ _ (told .pair .given .1) in
     omega (arith, later .0, later .1)
 
 loop-again : tie.Need-loop-again Inv-loop μ-loop
