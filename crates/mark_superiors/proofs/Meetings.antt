@@ -49,6 +49,9 @@ pairs-end c stop d from = pairs-all (λ (b : ℕ). List·Memᴰ b (endBars c)) c
 
 -- ---- one zone
 
+pub pair-within : (at m next bar : ℕ) (r : Pair) → Later at m r → r ≡ At next bar → (at < next) × (next ≤ m) × (bar < 0x1_0000)
+pair-within at m next bar r behind e = subst (Later at m) e behind
+
 -- the scan has come to big `at`, and the first `count` bars have those of its pairs so far
 pub record Meeting
     (bars : List (List ℕ)) (prices : List (List Float)) (m : ℕ) (scan : Scan) (out₀ : List ℕ) (k : ℕ) (out : List ℕ) (count hint at : ℕ) : Type 0
@@ -77,16 +80,13 @@ module _ (bars : List (List ℕ)) (prices : List (List Float)) (m : ℕ) (scan :
     meeting-none h c stop t lim = rw (drop-of-length-le (c .bigs) {i = at} (omega (arith, t .count))) at (so-far .left c stop t lim)
 
     -- the next pair
-    module _ (r : Pair) (behind : Later at m r) (pairs : NextPair m bars prices (scan .direction) (scan .limit) at r) where
+    module _ (r : Pair) (pairs : NextPair m bars prices (scan .direction) (scan .limit) at r) where
       pub meeting-over : r ≡ Over → PutsPairs m bars prices scan k out₀ count out
       meeting-over e c stop t lim =
           let none = pairs c stop t lim ∙ ap (pairsBy (pairEnds c stop (scan .direction)) (c .bigs)) e in
           sym (ap (foldl insertBar (take count out)) none) ∙ so-far .left c stop t lim
 
       module _ (next bar : ℕ) (e : r ≡ At next bar) where
-        pub pair-within : (at < next) × (next ≤ m) × (bar < 0x1_0000)
-        pair-within = subst (Later at m) e behind
-
         here :
             (c : Levels) (stop : ℕ → Bool) → Bigs c m bars prices → Limits (scan .limit) stop
             → pairEnds c stop (scan .direction) (drop at (c .bigs)) ≡ bar ∷ pairEnds c stop (scan .direction) (drop next (c .bigs))

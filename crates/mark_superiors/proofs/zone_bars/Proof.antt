@@ -51,17 +51,14 @@ returns c =
     let inv = head found .loop .inv in
     let pair = found .next-pair in (
       (inv .low, inv .wide),
-      meeting-over _ _ _ _ _ _ _ _ _ (head found .loop .at) inv (pair .result) (pair .ensures .0) (pair .ensures .1) (c .enum-told .given .1),
+      meeting-over _ _ _ _ _ _ _ _ _ (head found .loop .at) inv (pair .result) (pair .ensures .1) (c .enum-told .given .1),
     )
 
 cast-insert-bar : tie.Need-cast-insert-bar Inv-loop μ-loop
 cast-insert-bar c =
     let told = c .before .before in
     let found = told .before .before in
-    let pair = found .next-pair in
-    let within = pair-within _ _ _ _ _ _ _ _ _ (head found .loop .at) (head found .loop .inv)
-    (pair .result) (pair .ensures .0) (pair .ensures .1) _ _ (told .pair .given .1) in
-    let below = within .2 in
+    let below = pair-within _ _ _ _ _ (found .next-pair .ensures .0) (told .pair .given .1) .2 in
     search needs
 
 insert-bar-requires : tie.Need-insert-bar-requires Inv-loop μ-loop
@@ -75,9 +72,7 @@ loop-less : tie.Need-loop-less Inv-loop μ-loop
 loop-less c =
     let told = c .before .before .before .before .before in
     let found = told .before .before in
-    let pair = found .next-pair in
-    let later = pair-within _ _ _ _ _ _ _ _ _ (head found .loop .at) (head found .loop .inv)
-    (pair .result) (pair .ensures .0) (pair .ensures .1) _ _ (told .pair .given .1) in
+    let later = pair-within _ _ _ _ _ (found .next-pair .ensures .0) (told .pair .given .1) in
     omega (arith, later .0, later .1)
 
 loop-again : tie.Need-loop-again Inv-loop μ-loop
@@ -87,7 +82,7 @@ loop-again c =
     let found = told .before .before in
     let here = head found in
     let pair = found .next-pair in
-    meeting-next _ _ _ _ _ _ _ _ _ (here .loop .at) (here .loop .inv) (pair .result) (pair .ensures .0) (pair .ensures .1) _ _ (told .pair .given .1)
+    meeting-next _ _ _ _ _ _ _ _ _ (here .loop .at) (here .loop .inv) (pair .result) (pair .ensures .1) _ _ (told .pair .given .1)
     _ _ _ (put .ensures .0) (put .ensures .1 .0) (omega (arith, few here, put .ensures .1 .1 .1)) (put .ensures .1 .1 .2)
 
 same-length-2 : tie.Need-same-length-2 Inv-loop μ-loop
