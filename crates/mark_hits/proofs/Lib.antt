@@ -1,3 +1,4 @@
 pub mod Lent
 pub mod Quotes
 pub mod Hits
+pub mod Ends

@@ -120,6 +120,36 @@ fn is_behind(after: u16, bar: u16) -> bool
     after < bar
 }
 
+// The next of m bigs from place `from` on.
+pub fn next_end(
+    bars: &[[u16; 6]; 256],
+    prices: &[[f64; 3]; 256],
+    m: usize,
+    up: bool,
+    after: u16,
+    from: usize,
+) -> End
+    requires { ⌜ m ≤ 256 ⌝ }
+    ensures { λ r. ⌜ LaterEnd from m r ⌝ }
+    ensures { λ r. ⌜ NextEnd m (now (bars .entry)) (now (prices .entry)) up after from r ⌝ }
+{
+    let mut k = from;
+    while k < m {
+        let i = k;
+        k += 1;
+        if !is_way(tables::way_at(bars, i), up) {
+            continue;
+        }
+        let EndPoint::At(bar, price) = tables::point_at(bars, prices, i) else {
+            continue;
+        };
+        if is_behind(after, bar) {
+            return End::At(k, bar, price);
+        }
+    }
+    End::Over
+}
+
 // ---- anchors
 
 // The anchors' side: how many bigs there are, how many of the first are looked at for anchors, and whether their marks are buys.
