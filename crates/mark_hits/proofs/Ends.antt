@@ -33,10 +33,10 @@ module _ {A : Type 0} (p : A → Bool) (x : A) (xs : List A) where
   keep-no e = rw (keep, e)
 
 module _ {A B : Type 0} (f : A → Option B) (x : A) (xs : List A) where
-  collect-some : (y : B) → f x ≡ some y → collect f (x ∷ xs) ≡ y ∷ collect f xs
+  pub collect-some : (y : B) → f x ≡ some y → collect f (x ∷ xs) ≡ y ∷ collect f xs
   collect-some y e = rw (collect, e)
 
-  collect-none : f x ≡ none → collect f (x ∷ xs) ≡ collect f xs
+  pub collect-none : f x ≡ none → collect f (x ∷ xs) ≡ collect f xs
   collect-none e = rw (collect, e)
 
 -- ---- one big and those behind it
@@ -79,7 +79,7 @@ module _ (c : Levels) (up : Bool) (bar : ℕ) (b : Triple) (bs : List Triple) wh
 nowhere-at : {b : ℕ} {x : Float} → Nowhere ≡ At b x → ⊥
 nowhere-at e = let z : _≡_ {A = ℕ} 0 1 = cc in omega arith
 
-no-point : (o : Option Stroke) → pointOf o ≡ Nowhere → o ≡ none
+pub no-point : (o : Option Stroke) → pointOf o ≡ Nowhere → o ≡ none
 no-point none e = refl
 no-point (some s) e = cc
 

@@ -2,3 +2,4 @@ pub mod Lent
 pub mod Quotes
 pub mod Hits
 pub mod Ends
+pub mod Anchors

@@ -1,8 +1,8 @@
 -- What the ends of bigs and the table of anchors stand for. Assumes nothing.
-use Prim.Native.Nat.{ℕ, _<_, _≤_}
+use Prim.Native.Nat.{ℕ, _+_, _<_, _≤_}
 use mathlib.Core.Path.{_≡_}
 use mathlib.Core.Bool.{Bool, cond, Bool·beq}
-use mathlib.Core.List.{List, [], _∷_}
+use mathlib.Core.List.{List, [], _∷_, _++_}
 use mathlib.Core.Option.{Option, none, some}
 use lib.ListN.{length, take, drop, getD, getElem?}
 use lib.Dec.{eqb, ltb}
@@ -13,7 +13,8 @@ use Rattle.rules.specs.Lists.{keep, collect}
 use Rattle.rules.specs.Records.{isUp, Levels}
 use Rattle.rules.specs.Ranges.{lastStroke}
 use Rattle.rules.specs.Marks.{anchorsOf, anchorSide, endsAfter, anchorPrice}
-use Rattle.tables.specs.Tables.{Bigs}
+use Rattle.tables.specs.declared.Counts.{Counts}
+use Rattle.tables.specs.Tables.{Bigs, Sups}
 use Rattle.mark_hits.specs.declared.End.{End}
 use Rattle.mark_hits.specs.declared.End.the-variants.{At, Over}
 use Rattle.mark_hits.specs.declared.Side.{Side}
@@ -43,6 +44,14 @@ LaterEnd from m (At next end price) = (from < next) × (next ≤ m) × (end < 0x
 abbrev pub NextEnd : ℕ → List (List ℕ) → List (List Float) → Bool → ℕ → ℕ → End → Type 0
 NextEnd m bars prices up bar from r = (c : Levels) → Bigs c m bars prices → EndsBy c up bar from r
 
+-- no big before a place ends behind a bar
+abbrev pub NoneBefore : Levels → ℕ → ℕ → Type 0
+NoneBefore c bar place = (up : Bool) → endsAfter c up bar ≡ endsIn c up bar (drop place (c .bigs))
+
+-- from such a place for the bar `last` to one for the bar `after`
+abbrev pub FirstBehind : ℕ → List (List ℕ) → List (List Float) → ℕ → ℕ → ℕ → ℕ → Type 0
+FirstBehind m bars prices last place after r = (c : Levels) → Bigs c m bars prices → NoneBefore c last place → NoneBefore c after r
+
 -- ---- anchors
 
 -- how many bigs there are, how many of the first are looked at for anchors, and the anchors' side: those of these levels
@@ -50,6 +59,9 @@ pub record Anchoring (c : Levels) (s : Side) : Type 0 where
   pub bigs : length (c .bigs) ≡ s .bigs
   pub anchors : collect (lastStroke c) (take (s .anchors) (c .bigs)) ≡ anchorsOf c (c .superiors)
   pub buy : s .buy ≡ anchorSide (c .superiors)
+
+abbrev pub SideOf : Counts → List (List ℕ) → Side → Type 0
+SideOf n sups r = (c : Levels) → length (c .bigs) ≡ n .bigs → Sups c (n .superiors) sups → Anchoring c r
 
 -- the price C, where there is one
 abbrev pub priceOf : Price → Option Float
@@ -66,10 +78,21 @@ anchorIn row p = record { bar = getD row 0 0; from = getD row 1 0; price = price
 -- anchor a of a side: its end bar, a place before which no big ends behind that, and its price C
 pub record AnchorAt (c : Levels) (buy : Bool) (a : Stroke) (x : Anchor) : Type 0 where
   pub bar : a .«end_bar» ≡ x .bar
-  pub behind : (up : Bool) → endsAfter c up (a .«end_bar») ≡ endsIn c up (a .«end_bar») (drop (x .from) (c .bigs))
+  pub behind : NoneBefore c (a .«end_bar») (x .from)
   pub price : anchorPrice c buy a ≡ priceOf (x .price)
 
 -- the first n rows are these anchors of a side
 pub record Anchors (c : Levels) (buy : Bool) (anchors : List Stroke) (n : ℕ) (rows : List (List ℕ)) (cs : List Float) : Type 0 where
   pub count : length anchors ≡ n
   pub are : (i : ℕ) (a : Stroke) → getElem? anchors i ≡ some a → AnchorAt c buy a (anchorIn (getD rows i []) (getD cs i nan))
+
+-- One anchor more in row n: it ends at `bar`, no big before place `from` ends behind that, and `end` is the next big of the side that does
+abbrev pub PutsAnchor : ℕ → ℕ → ℕ → End → List (List ℕ) → List Float → List (List ℕ) → List Float → Type 0
+PutsAnchor n bar from end rows cs rows' cs' =
+    (c : Levels) (buy : Bool) (l : List Stroke) (a : Stroke) → a .«end_bar» ≡ bar → NoneBefore c bar from → EndsBy c buy bar from end
+    → Anchors c buy l n rows cs → Anchors c buy (l ++ a ∷ []) (n + 1) rows' cs'
+
+-- the anchors of a side, among bigs that are in two tables
+abbrev pub AnchorsOf : Side → List (List ℕ) → List (List Float) → ℕ → List (List ℕ) → List Float → Type 0
+AnchorsOf s bars prices r rows cs =
+    (c : Levels) → Bigs c (s .bigs) bars prices → Anchors c (s .buy) (collect (lastStroke c) (take (s .anchors) (c .bigs))) r rows cs

@@ -4,17 +4,16 @@ use tables::Counts;
 ghost use mathlib.Core.Path.{_≡_};
 ghost use mathlib.Core.Bool.{not, cond, Bool·beq};
 ghost use mathlib.Core.List.{[], _∷_};
-ghost use Prim.Native.Nat.{_≤_, _<_};
-ghost use lib.ListN.{length, take, getD};
+ghost use Prim.Native.Nat.{_≤_, _<_, min};
+ghost use lib.ListN.{getD};
 ghost use lib.Dec.{ltb};
 ghost use lib.Ieee.{lt, nan};
-ghost use Rattle.rules.specs.Lists.{find, isNone, collect};
-ghost use Rattle.rules.specs.Records.{isUp, Levels};
-ghost use Rattle.rules.specs.Ranges.{lastStroke};
+ghost use Rattle.rules.specs.Lists.{find, isNone};
+ghost use Rattle.rules.specs.Records.{isUp};
 ghost use Rattle.rules.specs.Marks.{quote, beats};
-ghost use Rattle.tables.specs.Tables.{Bigs, Sups};
+ghost use Rattle.tables.specs.Rows.{Wide};
 ghost use Rattle.mark_hits.specs.Found.{quotesRefusal, quoteOf, hitBar, LentPrice};
-ghost use Rattle.mark_hits.specs.Anchors.{NextEnd, LaterEnd, Anchoring, anchorIn, Anchors};
+ghost use Rattle.mark_hits.specs.Anchors.{NextEnd, LaterEnd, FirstBehind, SideOf, anchorIn, PutsAnchor, AnchorsOf};
 
 // ---- lent prices
 
@@ -150,6 +149,37 @@ pub fn next_end(
     End::Over
 }
 
+// A place such that no big before it ends behind `after`, given one for the bar `last`. Where the end bars rise, as they do in a live chart,
+// the bigs of all anchors are passed over once.
+fn first_behind(
+    bars: &[[u16; 6]; 256],
+    prices: &[[f64; 3]; 256],
+    m: usize,
+    last: u16,
+    place: usize,
+    after: u16,
+) -> usize
+    requires { ⌜ (m ≤ 256) × (place ≤ m) ⌝ }
+    ensures { λ r. ⌜ r ≤ m ⌝ }
+    ensures { λ r. ⌜ FirstBehind m (now (bars .entry)) (now (prices .entry)) last place after r ⌝ }
+{
+    if after < last {
+        return 0;
+    }
+    let mut k = place;
+    while k < m {
+        let i = k;
+        k += 1;
+        let EndPoint::At(bar, price) = tables::point_at(bars, prices, i) else {
+            continue;
+        };
+        if is_behind(after, bar) {
+            return i;
+        }
+    }
+    k
+}
+
 // ---- anchors
 
 // The anchors' side: how many bigs there are, how many of the first are looked at for anchors, and whether their marks are buys.
@@ -157,6 +187,38 @@ pub struct Side {
     pub bigs: usize,
     pub anchors: usize,
     pub buy: bool,
+}
+
+fn wide(x: u16) -> usize
+    ensures { λ r. ⌜ r ≡ x ⌝ }
+{
+    x as usize
+}
+
+// The smaller of two.
+fn at_most(n: usize, m: usize) -> usize
+    ensures { λ r. ⌜ r ≡ min n m ⌝ }
+{
+    if n < m { n } else { m }
+}
+
+// By the first superior: the bigs before its first, and its direction.
+pub fn side_of(sups: &[[u16; 5]; 256], counts: Counts) -> Side
+    ensures { λ r. ⌜ (r .bigs ≡ counts .bigs) × (r .anchors ≤ r .bigs) ⌝ }
+    ensures { λ r. ⌜ SideOf counts (now (sups .entry)) r ⌝ }
+{
+    if counts.superiors == 0 {
+        return Side {
+            bigs: counts.bigs,
+            anchors: 0,
+            buy: true,
+        };
+    }
+    Side {
+        bigs: counts.bigs,
+        anchors: at_most(wide(sups[0][1]), counts.bigs),
+        buy: is_way(sups[0][0], true),
+    }
 }
 
 // The price C of an anchor, where there is one.
@@ -167,7 +229,82 @@ pub enum Price {
 
 // An anchor: its end bar, a place before which no big ends behind that, and its price C.
 pub struct Anchor {
-    pub bar: u32,
-    pub from: u32,
+    pub bar: u16,
+    pub from: usize,
     pub price: Price,
+}
+
+pub fn anchor_at(anchors: &[[u16; 3]; 256], cs: &[f64; 256], i: usize) -> Anchor
+    requires { ⌜ i < 256 ⌝ }
+    ensures { λ r. ⌜ r ≡ anchorIn (getD (now (anchors .entry)) i []) (getD (now (cs .entry)) i nan) ⌝ }
+{
+    let bar = anchors[i][0];
+    let from = wide(anchors[i][1]);
+    if anchors[i][2] == 0 {
+        return Anchor {
+            bar,
+            from,
+            price: Price::Nowhere,
+        };
+    }
+    Anchor {
+        bar,
+        from,
+        price: Price::At(cs[i]),
+    }
+}
+
+// An anchor that ends at `bar` into row n, with a place before which no big ends behind that, and the price C at the next end of a big of
+// the side.
+fn put_anchor(
+    bar: u16,
+    from: usize,
+    end: End,
+    n: usize,
+    anchors: &mut [[u16; 3]; 256],
+    cs: &mut [f64; 256],
+)
+    requires { ⌜ (from ≤ 256) × (n < 256) × Wide (now anchors) (now cs) ⌝ }
+    ensures { λ _. ⌜ Wide (now (anchors .exit)) (now (cs .exit)) ⌝ }
+    ensures { λ _. ⌜ PutsAnchor n bar from end (now (anchors .entry)) (now (cs .entry)) (now (anchors .exit)) (now (cs .exit)) ⌝ }
+{
+    let place = from as u16;
+    let End::At(next, at, price) = end else {
+        anchors[n] = [bar, place, 0];
+        cs[n] = 0.0;
+        return;
+    };
+    anchors[n] = [bar, place, 1];
+    cs[n] = price;
+}
+
+// The anchors of a side into lent tables; how many they are.
+pub fn anchors_of(
+    bars: &[[u16; 6]; 256],
+    prices: &[[f64; 3]; 256],
+    side: Side,
+    anchors: &mut [[u16; 3]; 256],
+    cs: &mut [f64; 256],
+) -> usize
+    requires { ⌜ (side .bigs ≤ 256) × (side .anchors ≤ side .bigs) × Wide (now anchors) (now cs) ⌝ }
+    ensures { λ r. ⌜ r ≤ side .anchors ⌝ }
+    ensures { λ r. ⌜ AnchorsOf side (now (bars .entry)) (now (prices .entry)) r (now (anchors .exit)) (now (cs .exit)) ⌝ }
+{
+    let mut n = 0usize;
+    let mut last = 0u16;
+    let mut from = 0usize;
+    let mut i = 0usize;
+    while i < side.anchors {
+        let k = i;
+        i += 1;
+        let EndPoint::At(bar, price) = tables::point_at(bars, prices, k) else {
+            continue;
+        };
+        from = first_behind(bars, prices, side.bigs, last, from, bar);
+        last = bar;
+        let end = next_end(bars, prices, side.bigs, side.buy, bar, from);
+        put_anchor(bar, from, end, n, anchors, cs);
+        n += 1;
+    }
+    n
 }

@@ -1,0 +1,116 @@
+-- `mark_hits::anchors_of` meets its contract. The invariant: the anchors among the first i bigs have rows. Assumes nothing.
+use Prim.Native.Nat.{_-_, _≤_}
+use native.Mathlib.Omega.{arith}
+use mathlib.Core.Path.{_≡_, sym, _∙_}
+use borrow.Author.Needs.{needs}
+use Rattle.tables.specs.Rows.{Wide}
+use Rattle.mark_hits.proofs.Anchors.{Gathered, gathered-none, gathered-missing, gathered-more, gathered-all}
+use Rattle.mark_hits.proofs.anchors_of.Statement.{statement}
+use Rattle.mark_hits.proofs.anchors_of.Tie as tie
+
+abbrev Inv-loop : tie.InvT-loop
+Inv-loop bars prices side anchors₀ cs₀ n₀ last₀ from₀ i₀ anchors cs n last from i =
+    (n ≤ i) × (i ≤ side .anchors) × (side .anchors ≤ side .bigs) × (side .bigs ≤ 256) × (from ≤ side .bigs) × Wide anchors cs
+    × Gathered side bars prices anchors cs n last from i
+
+abbrev μ-loop : tie.MeasureT-loop
+μ-loop bars prices side anchors₀ cs₀ n₀ last₀ from₀ i₀ anchors cs n last from i = side .anchors - i
+
+-- the places of the code that the proof goes back to
+abbrev head-of : tie.After-point-at Inv-loop μ-loop → tie.At-loop Inv-loop μ-loop
+head-of c = c .before .before .before
+
+abbrev read-of : tie.After-next-end Inv-loop μ-loop → tie.After-point-at Inv-loop μ-loop
+read-of c = c .before .before .before .before .before
+
+loop-holds : tie.Need-loop-holds Inv-loop μ-loop
+loop-holds c = (omega arith, omega arith, c .pre .1, c .pre .0, omega arith, c .pre .2, gathered-none (c .args .side) _ _ _ _)
+
+add-i : tie.Need-add-i Inv-loop μ-loop
+add-i c = search needs
+
+point-at-requires : tie.Need-point-at-requires Inv-loop μ-loop
+point-at-requires c κs = search needs
+
+enum-known-bar : tie.Need-enum-known-bar Inv-loop μ-loop
+enum-known-bar c = search needs
+
+enum-told : tie.Need-enum-told Inv-loop μ-loop
+enum-told c = search needs
+
+loop-less : tie.Need-loop-less Inv-loop μ-loop
+loop-less c = search needs
+
+loop-again : tie.Need-loop-again Inv-loop μ-loop
+loop-again c =
+    let read = c .before .before in
+    let turn = read .before in
+    let inv = head-of read .loop .inv in (
+      omega (arith, inv .0),
+      omega (arith, turn .if1 .taken),
+      inv .2,
+      inv .3,
+      inv .4,
+      inv .5,
+      gathered-missing (head-of read .before .args .side) _ _ _ _ _ _ (head-of read .loop .from) _ (inv .6) (omega (arith, turn .if1 .taken, inv .2)) (sym (read .point-at .ensures) ∙ c .enum-told .given .1),
+    )
+
+first-behind-requires : tie.Need-first-behind-requires Inv-loop μ-loop
+first-behind-requires c κs = search needs
+
+next-end-requires : tie.Need-next-end-requires Inv-loop μ-loop
+next-end-requires c κs = search needs
+
+put-anchor-requires : tie.Need-put-anchor-requires Inv-loop μ-loop
+put-anchor-requires c κs = search needs
+
+add-n : tie.Need-add-n Inv-loop μ-loop
+add-n c = search needs
+
+loop-less-2 : tie.Need-loop-less-2 Inv-loop μ-loop
+loop-less-2 c = search needs
+
+loop-again-2 : tie.Need-loop-again-2 Inv-loop μ-loop
+loop-again-2 c =
+    let next = c .before .before .before in
+    let first = next .before in
+    let read = read-of next in
+    let turn = read .before in
+    let inv = head-of read .loop .inv in (
+      omega (arith, inv .0),
+      omega (arith, turn .if1 .taken),
+      inv .2,
+      inv .3,
+      first .first-behind .ensures .0,
+      c .put-anchor .ensures .0,
+      gathered-more (head-of read .before .args .side) _ _ _ _ _ (head-of read .loop .last) (head-of read .loop .from) _ (inv .6) (omega (arith, turn .if1 .taken, inv .2)) _ _
+          (sym (read .point-at .ensures) ∙ first .before .before .bar .given .1) _ (first .first-behind .ensures .1) (next .next-end .result)
+          (next .next-end .ensures .1) _ _ (c .put-anchor .ensures .1),
+    )
+
+returns : tie.Need-returns Inv-loop μ-loop
+returns c =
+    let head = c .before .before in
+    let inv = head .loop .inv in
+    (omega (arith, inv .0, inv .1), gathered-all (head .before .args .side) _ _ _ _ _ _ (head .loop .from) _ (inv .6) (inv .1) (c .if1 .left))
+
+pub anchors-of-spec : {M : Type 1} → statement M
+anchors-of-spec =
+    tie.close
+    (tie.spec
+    Inv-loop
+    μ-loop
+    loop-holds
+    add-i
+    point-at-requires
+    enum-known-bar
+    enum-told
+    loop-less
+    loop-again
+    first-behind-requires
+    next-end-requires
+    put-anchor-requires
+    add-n
+    loop-less-2
+    loop-again-2
+    returns)

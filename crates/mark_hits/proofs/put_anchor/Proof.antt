@@ -1,0 +1,71 @@
+-- `mark_hits::put_anchor` meets its contract. Assumes nothing.
+use lib.ListN.{length-set}
+use borrow.Author.Needs.{needs}
+use Rattle.mark_hits.proofs.Anchors.{puts-nowhere, puts-priced}
+use Rattle.mark_hits.proofs.put_anchor.Statement.{statement}
+use Rattle.mark_hits.proofs.put_anchor.Tie as tie
+
+cast-place : tie.Need-cast-place
+cast-place c = search needs
+
+enum-known-end : tie.Need-enum-known-end
+enum-known-end c = search needs
+
+enum-told : tie.Need-enum-told
+enum-told c = search needs
+
+mul-t12 : tie.Need-mul-t12
+mul-t12 c = search needs
+
+element-set-from-anchors : tie.Need-element-set-from-anchors
+element-set-from-anchors c = search needs
+
+mul-cs : tie.Need-mul-cs
+mul-cs c = search needs
+
+element-write-cs : tie.Need-element-write-cs
+element-write-cs c = search needs
+
+returns : tie.Need-returns
+returns c =
+    let start = c .before .before in (
+      (simp length-set (start .pre .2 .0), simp length-set (start .pre .2 .1)),
+      λ l buy an a at behind ends so-far. puts-nowhere _ _ _ (start .args .end) _ _ (start .pre .1) (start .pre .2) l buy an a at behind ends so-far _ (c .enum-told .given .1),
+    )
+
+mul-t18 : tie.Need-mul-t18
+mul-t18 c = search needs
+
+element-set-from-anchors-2 : tie.Need-element-set-from-anchors-2
+element-set-from-anchors-2 c = search needs
+
+mul-cs-2 : tie.Need-mul-cs-2
+mul-cs-2 c = search needs
+
+element-write-cs-2 : tie.Need-element-write-cs-2
+element-write-cs-2 c = search needs
+
+returns-2 : tie.Need-returns-2
+returns-2 c =
+    let start = c .before .before .before in (
+      (simp length-set (start .pre .2 .0), simp length-set (start .pre .2 .1)),
+      λ l buy an a at behind ends so-far. puts-priced _ _ _ (start .args .end) _ _ (start .pre .1) (start .pre .2) l buy an a at behind ends so-far _ _ _ (c .before .end .given .1),
+    )
+
+pub put-anchor-spec : {M : Type 1} → statement M
+put-anchor-spec =
+    tie.close
+    (tie.spec
+    cast-place
+    enum-known-end
+    enum-told
+    mul-t12
+    element-set-from-anchors
+    mul-cs
+    element-write-cs
+    returns
+    mul-t18
+    element-set-from-anchors-2
+    mul-cs-2
+    element-write-cs-2
+    returns-2)
