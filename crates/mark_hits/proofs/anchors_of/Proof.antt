@@ -52,7 +52,8 @@ loop-again c =
       inv .3,
       inv .4,
       inv .5,
-      gathered-missing (head-of read .before .args .side) _ _ _ _ _ _ (head-of read .loop .from) _ (inv .6) (omega (arith, turn .if1 .taken, inv .2)) (sym (read .point-at .ensures) ∙ c .enum-told .given .1),
+      gathered-missing (head-of read .before .args .side) _ _ _ _ _ _ (head-of read .loop .from) _ (inv .6) (omega (arith, turn .if1 .taken, inv .2))
+          (sym (read .point-at .ensures) ∙ c .enum-told .given .1),
     )
 
 first-behind-requires : tie.Need-first-behind-requires Inv-loop μ-loop

@@ -40,10 +40,11 @@ loop-again : tie.Need-loop-again Inv-loop μ-loop
 loop-again c =
     let read = c .before .before in
     let turn = read .before in
+    let args = turn .before .before .before .args in
     let inv = turn .before .loop .inv in (
       inv .0,
       omega (arith, turn .loop-test .taken),
-      behind-nowhere _ _ _ (turn .before .before .before .args .last) (turn .before .before .before .args .place) _ _ (inv .2) (turn .loop-test .taken) (sym (read .point-at .ensures) ∙ c .enum-told .given .1),
+      behind-nowhere _ _ _ (args .last) (args .place) _ _ (inv .2) (turn .loop-test .taken) (sym (read .point-at .ensures) ∙ c .enum-told .given .1),
     )
 
 is-behind-requires : tie.Need-is-behind-requires Inv-loop μ-loop
@@ -62,10 +63,11 @@ loop-again-2 c =
     let behind = c .before in
     let read = behind .before .before .before .before in
     let turn = read .before in
+    let args = turn .before .before .before .args in
     let inv = turn .before .loop .inv in (
       inv .0,
       omega (arith, turn .loop-test .taken),
-      behind-soon _ _ _ (turn .before .before .before .args .last) (turn .before .before .before .args .place) _ _ (inv .2) (turn .loop-test .taken) _ _ (sym (read .point-at .ensures) ∙ behind .before .before .bar .given .1)
+      behind-soon _ _ _ (args .last) (args .place) _ _ (inv .2) (turn .loop-test .taken) _ _ (sym (read .point-at .ensures) ∙ behind .before .before .bar .given .1)
           (sym (behind .is-behind .ensures .0) ∙ c .if2 .left),
     )
 
