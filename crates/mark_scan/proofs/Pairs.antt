@@ -1,17 +1,18 @@
 -- The pairs from big k on: one way through next_pair each. Assumes nothing.
 use Prim.Native.Nat.{ℕ, zero, suc, _+_, _-_, _<_, _≤_, min}
 use native.Mathlib.Omega.{arith}
-use native.Mathlib.Numerals.{add-one}
-use mathlib.Core.Path.{_≡_, refl, sym, _∙_}
+use native.Mathlib.Numerals.{add-one, unary-clauses}
+use mathlib.Core.Path.{_≡_, refl, sym, ap, _∙_}
 use mathlib.Core.Bool.{Bool, true, false}
 use mathlib.Core.List.{List, [], _∷_}
 use lib.ListN.{length, drop, getD, length-drop, drop-of-length-le}
-use lib.Seq.{drop-cons}
+use lib.Seq.{drop-cons, drop-drop}
 use lib.Ieee.{Float}
 use lib.Dec.{leb}
 use borrow.Author.Tests.{eq-eqb, ne-eqb, le-leb, lt-leb, leb-true, leb-false}
 use Rattle.chart.specs.declared.Triple.{Triple}
 use Rattle.chart.specs.declared.Span.{Span}
+use Rattle.chart.specs.declared.Range.{Range}
 use Rattle.chart.specs.declared.Range.the-variants.{Found, Missing}
 use Rattle.rules.specs.Records.{Levels}
 use Rattle.rules.specs.Ranges.{rangeOf}
@@ -114,6 +115,50 @@ leave-nothing : (c : Levels) (e n : ℕ) → leaving c e n [] ≡ []
 unfolding leaving
 leave-nothing c e zero = refl
 leave-nothing c e (suc n) = refl
+
+-- Where the bigs from the first on that starts at bar e or later are those k on, no big before them starts at a later bar either: one
+-- more big in front
+module _
+    (c : Levels) (e later n k : ℕ) (b : Triple) (bs : List Triple) (h : e ≤ later)
+    (more : leaving c e n bs ≡ drop k bs → leaving c later n bs ≡ leaving c later (n - k) (drop k bs))
+    (f : leaving c e (suc n) (b ∷ bs) ≡ drop k bs)
+  where
+    abbrev goes-on : Range → Type 0
+    goes-on r = rangeOf c b ≡ r → leaving c later (suc n) (b ∷ bs) ≡ leaving c later (n - k) (drop k bs)
+
+    found : (s : Span) (u : Bool) → leb e (s .«start_bar») ≡ u → goes-on (Found s)
+    found s true u g =
+        let all = ap length (sym (leave-here c e n b bs s g (leb-true _ _ u)) ∙ f) in
+        absurd (omega (arith, all, length-drop k bs))
+    found s false u g =
+        let low = leb-false _ _ u in
+        leave-pass c later n b bs s g (omega (arith, low, h)) ∙ more (sym (leave-pass c e n b bs s g low) ∙ f)
+
+    leave-one : (r : Range) → goes-on r
+    leave-one Missing g = leave-missing c later n b bs g ∙ more (sym (leave-missing c e n b bs g) ∙ f)
+    leave-one (Found s) g = found s (leb e (s .«start_bar»)) refl g
+
+leave-later :
+    (c : Levels) (e later n k : ℕ) (bs : List Triple) → e ≤ later → leaving c e n bs ≡ drop k bs
+    → leaving c later n bs ≡ leaving c later (n - k) (drop k bs)
+leave-later c e later zero k bs h f =
+    let none : 0 - k ≡ 0 = omega arith in
+    rw (none, leave-over c later bs, leave-over c later (drop k bs)) (rw (leave-over c e bs) at f)
+leave-later c e later (suc n) zero bs h f = simp unary-clauses refl
+leave-later c e later (suc n) (suc k) [] h f = leave-nothing c later _ ∙ sym (leave-nothing c later _)
+leave-later c e later (suc n) (suc k) (b ∷ bs) h f =
+    simp unary-clauses (leave-one c e later n k b bs h (leave-later c e later n k bs h) f (rangeOf c b) refl)
+
+-- the same from place `first` on
+pub leave-from :
+    (c : Levels) (e later first last p : ℕ) → e ≤ later → first ≤ p
+    → leaving c e (suc last - first) (drop first (c .bigs)) ≡ drop p (c .bigs)
+    → leaving c later (suc last - first) (drop first (c .bigs)) ≡ leaving c later (suc last - p) (drop p (c .bigs))
+leave-from c e later first last p h k f =
+    let place : first + (p - first) ≡ p = omega arith in
+    let over = rw place at (drop-drop (p - first) first (c .bigs)) in
+    let few : suc last - first - (p - first) ≡ suc last - p = omega arith in
+    rw (few, over) at (leave-later c e later (suc last - first) (p - first) (drop first (c .bigs)) h (f ∙ sym over))
 
 -- the bigs from place k on are left to look at
 module _

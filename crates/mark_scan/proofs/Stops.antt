@@ -60,7 +60,7 @@ behind-limit h e owner start more bar fits small below same = go (eqb owner h) r
         let there : more + suc e ≡ start = omega arith in
         ap (λ (x : ℕ). leb x bar) there
     go false f false g =
-        let sooner = ltb-false e start g in
+        let not-behind = ltb-false e start g in
         let wraps : more ≡ (start + (0xffff - e)) % 0x1_0000 = rw f at same in
         lt-leb (more + suc e) bar (omega arith)
 
@@ -129,8 +129,8 @@ module _ (n : ℕ) (zb : List (List ℕ)) (h e : ℕ) where
         go : (j : ℕ) → j ≤ i → later j ≡ later 0
         go zero w = refl
         go (suc j) w =
-            let sooner : ltb e (start j) ≡ false = le-ltb e (start j) (omega (arith, low, up j i (omega arith) k)) in
-            rw (← add-one j) (sym (pass j (omega arith) (rw (sooner, and-false))) ∙ go j (omega arith))
+            let not-behind : ltb e (start j) ≡ false = le-ltb e (start j) (omega (arith, low, up j i (omega arith) k)) in
+            rw (← add-one j) (sym (pass j (omega arith) (rw (not-behind, and-false))) ∙ go j (omega arith))
 
   -- ---- next_zone
 

@@ -2,6 +2,7 @@
 use mathlib.Core.Path.{_≡_}
 use mathlib.Core.Bool.{Bool, not}
 use mathlib.Core.List.{List, [], _∷_}
+use mathlib.Core.Logic.{_⊎_}
 use mathlib.Core.Option.{Option, none, some}
 use Prim.Native.Nat.{ℕ, suc, _-_, _<_, _≤_}
 use lib.ListN.{length, drop, getD, getElem?}
@@ -96,6 +97,22 @@ abbrev pub ScanOf : Counts → List (List ℕ) → List (List Float) → List (L
 ScanOf n bars prices sups zb at row =
     (c : Levels) (zp : List (List Float)) → Tables c n bars prices sups zb zp
     → (z : Zone) → getElem? (overlapZones c) at ≡ some z → ZoneScan c (overlapZones c) z (scanIn row)
+
+-- the first i rows are scans
+abbrev pub ScannedTo : Counts → List (List ℕ) → List (List Float) → List (List ℕ) → List (List ℕ) → List (List ℕ) → ℕ → Type 0
+ScannedTo n bars prices sups zb rows i = (j : ℕ) → j < i → ScanOf n bars prices sups zb j (getD rows j [])
+
+-- place r is where the scan of the zone before starts, which is of the same superior and ends no later; and not before `first`
+pub record StartBefore (zb rows : List (List ℕ)) (at first r : ℕ) : Type 0 where
+  pub second : 0 < at
+  pub same : getD (getD zb (at - 1) []) 0 0 ≡ getD (getD zb at []) 0 0
+  pub later : getD (getD zb (at - 1) []) 2 0 ≤ getD (getD zb at []) 2 0
+  pub start : r ≡ getD (getD rows (at - 1) []) 2 0
+  pub inside : first ≤ r
+
+-- where the search for the start of the scan at place `at` begins: at `first`, or there
+abbrev pub SearchFrom : List (List ℕ) → List (List ℕ) → ℕ → ℕ → ℕ → Type 0
+SearchFrom zb rows at first r = (r ≡ first) ⊎ StartBefore zb rows at first r
 
 -- the first n rows are the scans of these zones
 pub record Scans (c : Levels) (zs : List Zone) (n : ℕ) (scans : List (List ℕ)) : Type 0 where

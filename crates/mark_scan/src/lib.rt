@@ -11,7 +11,7 @@ ghost use lib.Ieee.{Float};
 ghost use Rattle.rules.specs.Records.{Levels};
 ghost use Rattle.tables.specs.Tables.{Sups, Fits, Tables};
 ghost use Rattle.mark_scan.specs.Scan.{NextZone, StartsRise, OwnersBelow, reversalIn, limitOf, Later, NextPair, StartsAt, scanIn};
-ghost use Rattle.mark_scan.specs.Scan.{ScanOf, Scanned};
+ghost use Rattle.mark_scan.specs.Scan.{ScanOf, ScannedTo, SearchFrom, Scanned};
 
 // ---- where it starts
 
@@ -195,7 +195,7 @@ pub fn scan_at(scans: &[[u32; 4]; 256], i: usize) -> Scan
 }
 
 // The smaller of two limits.
-fn sooner(a: u32, b: u32) -> u32
+fn smaller_limit(a: u32, b: u32) -> u32
     ensures { λ r. ⌜ r ≡ min a b ⌝ }
 {
     if a < b { a } else { b }
@@ -208,18 +208,41 @@ fn wide(x: u16) -> usize
     x as usize
 }
 
-// The row of the scan of the zone at place `at`; `rise` where the zones' start bars never fall.
+// Where the search for a scan's start begins: at the superior's first big, or where the scan of the zone before starts, if that is of the
+// same superior and ends no later.
+fn search_from(zb: &[[u16; 5]; 256], scans: &[[u32; 4]; 256], at: usize, first: usize) -> usize
+    requires { ⌜ at < 256 ⌝ }
+    ensures { λ r. ⌜ SearchFrom (now (zb .entry)) (now (scans .entry)) at first r ⌝ }
+{
+    if at == 0 {
+        return first;
+    }
+    let i = at - 1;
+    if zb[i][0] != zb[at][0] {
+        return first;
+    }
+    if zb[at][2] < zb[i][2] {
+        return first;
+    }
+    let from = scan_at(scans, i).from as usize;
+    if from < first { first } else { from }
+}
+
+// The row of the scan of the zone at place `at`, where the rows of those before are in `scans`; `rise` where the zones' start bars never
+// fall.
 fn scan_of(
     bars: &[[u16; 6]; 256],
     prices: &[[f64; 3]; 256],
     sups: &[[u16; 5]; 256],
     zb: &[[u16; 5]; 256],
+    scans: &[[u32; 4]; 256],
     counts: Counts,
     rise: bool,
     at: usize,
 ) -> [u32; 4]
     requires { ⌜ Fits counts × (at < counts .zones) ⌝ }
     requires { ⌜ OwnersBelow (counts .zones) (now zb) (counts .superiors) × (rise ≡ true → StartsRise (counts .zones) (now zb)) ⌝ }
+    requires { ⌜ ScannedTo counts (now bars) (now prices) (now sups) (now zb) (now scans) at ⌝ }
     ensures { λ r. ⌜ ScanOf counts (now (bars .entry)) (now (prices .entry)) (now (sups .entry)) (now (zb .entry)) at r ⌝ }
 {
     let owner = wide(zb[at][0]);
@@ -227,14 +250,15 @@ fn scan_of(
     let way = sups[owner][0];
     let first = wide(sups[owner][1]);
     let last = wide(sups[owner][2]);
-    let from = start_of(bars, prices, counts.bigs, first, last, e);
+    let searched = search_from(zb, scans, at, first);
+    let from = start_of(bars, prices, counts.bigs, searched, last, e);
     let near = zone_limit(zb, counts.zones, rise, at);
     let turn = reversal(sups, counts.superiors, owner + 1, way, e);
     [
         owner as u32,
         wide(way) as u32,
         from as u32,
-        sooner(near, turn),
+        smaller_limit(near, turn),
     ]
 }
 
@@ -256,7 +280,7 @@ pub fn scans_of(
     let rise = starts_rise(zb, counts.zones);
     let mut i = 0usize;
     while i < counts.zones {
-        scans[i] = scan_of(bars, prices, sups, zb, counts, rise, i);
+        scans[i] = scan_of(bars, prices, sups, zb, scans, counts, rise, i);
         i += 1;
     }
 }

@@ -12,7 +12,7 @@ start c = c .before .before
 
 -- the zone's superior is one of the superiors
 below : (c : tie.After-wide) → c .wide .result < start c .args .counts .superiors
-below c = omega (arith, c .wide .ensures .0, start c .pre .1 .0 (start c .args .at) (start c .pre .0 .1))
+below c = omega (arith, c .wide .ensures .0, start c .pre .1 .0 .0 (start c .args .at) (start c .pre .0 .1))
 
 few : (c : tie.After-wide) → c .wide .result < 256
 few c = omega (arith, below c, start c .pre .0 .0 .superiors)
@@ -71,6 +71,9 @@ index-2-wide-3 c = search needs
 wide-requires-3 : tie.Need-wide-requires-3
 wide-requires-3 c κs = search needs
 
+search-from-requires : tie.Need-search-from-requires
+search-from-requires c κs = search needs
+
 start-of-requires : tie.Need-start-of-requires
 start-of-requires c κs = search needs
 
@@ -83,32 +86,34 @@ add-reversal c = search needs
 reversal-requires : tie.Need-reversal-requires
 reversal-requires c κs = search needs
 
-cast-t38 : tie.Need-cast-t38
-cast-t38 c = search needs
+cast-t40 : tie.Need-cast-t40
+cast-t40 c = search needs
 
 wide-requires-4 : tie.Need-wide-requires-4
 wide-requires-4 c κs = search needs
 
-cast-t39 : tie.Need-cast-t39
-cast-t39 c = search needs
+cast-t41 : tie.Need-cast-t41
+cast-t41 c = search needs
 
-cast-t40 : tie.Need-cast-t40
-cast-t40 c = search needs
+cast-t42 : tie.Need-cast-t42
+cast-t42 c = search needs
 
-sooner-requires : tie.Need-sooner-requires
-sooner-requires c κs = search needs
+smaller-limit-requires : tie.Need-smaller-limit-requires
+smaller-limit-requires c κs = search needs
 
 returns : tie.Need-returns
 returns c =
     let turn = c .before .before in
     let near = turn .before in
     let from = near .before in
-    let last = from .before in
+    let search = from .before in
+    let last = search .before in
     let first = last .before .before in
     let zone = first .before .before .before .before in
-    zone-scan _ _ _ _ _ (start zone .args .at) _ _ _ _ (start zone .pre .0 .1) (below zone) (zone .wide .ensures .0) refl (first .wide2 .ensures .0)
-    (last .wide3 .ensures .0) _ (near .zone-limit .result) (turn .reversal .result) _ _ (from .start-of .ensures .1) (near .zone-limit .ensures) (turn .reversal .ensures)
-    (c .sooner .ensures) (c .before .wide4 .ensures .0)
+    let pre = start zone .pre in
+    zone-scan _ _ _ _ _ _ _ _ _ (below zone) refl (first .wide2 .ensures .0) (last .wide3 .ensures .0) (start zone .args .at) (pre .0 .1) (zone .wide .ensures .0)
+    _ _ _ (near .zone-limit .result) (turn .reversal .result) _ _ (pre .1 .1) (search .search-from .ensures) (from .start-of .ensures .1)
+    (near .zone-limit .ensures) (turn .reversal .ensures) (c .smaller-limit .ensures) (c .before .wide4 .ensures .0)
 
 pub scan-of-spec : {M : Type 1} → statement M
 scan-of-spec =
@@ -132,13 +137,14 @@ scan-of-spec =
     index-1-wide-3
     index-2-wide-3
     wide-requires-3
+    search-from-requires
     start-of-requires
     zone-limit-requires
     add-reversal
     reversal-requires
-    cast-t38
-    wide-requires-4
-    cast-t39
     cast-t40
-    sooner-requires
+    wide-requires-4
+    cast-t41
+    cast-t42
+    smaller-limit-requires
     returns)

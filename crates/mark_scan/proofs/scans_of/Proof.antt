@@ -3,7 +3,8 @@ use Prim.Native.Nat.{_-_, _≤_}
 use native.Mathlib.Omega.{arith}
 use mathlib.Core.Path.{_≡_}
 use lib.ListN.{length, length-set}
-use Rattle.mark_scan.proofs.Scans.{ScannedTo, scans-next, scans-all}
+use Rattle.mark_scan.specs.Scan.{ScannedTo}
+use Rattle.mark_scan.proofs.Scans.{scans-next, scans-all}
 use borrow.Author.Needs.{needs}
 use Rattle.mark_scan.proofs.scans_of.Statement.{statement}
 use Rattle.mark_scan.proofs.scans_of.Tie as tie
@@ -23,8 +24,8 @@ loop-holds c = (omega arith, c .before .pre .2, λ j h. absurd (omega arith))
 scan-of-requires : tie.Need-scan-of-requires Inv-loop μ-loop
 scan-of-requires c κs = search needs
 
-mul-t11 : tie.Need-mul-t11 Inv-loop μ-loop
-mul-t11 c = search needs
+mul-t12 : tie.Need-mul-t12 Inv-loop μ-loop
+mul-t12 c = search needs
 
 element-set-from-scans : tie.Need-element-set-from-scans Inv-loop μ-loop
 element-set-from-scans c = search needs
@@ -37,7 +38,7 @@ loop-less c = search needs
 
 loop-again : tie.Need-loop-again Inv-loop μ-loop
 loop-again c =
-    let test = c .before in
+    let test = c .before .before in
     let head = test .before .before in
     let start = head .before .before in
     let inv = head .loop .inv in (
@@ -61,7 +62,7 @@ scans-of-spec =
     starts-rise-requires
     loop-holds
     scan-of-requires
-    mul-t11
+    mul-t12
     element-set-from-scans
     add-i
     loop-less
