@@ -116,17 +116,16 @@ unfolding leaving
 leave-nothing c e zero = refl
 leave-nothing c e (suc n) = refl
 
--- Where the bigs from the first on that starts at bar e or later are those k on, no big before them starts at a later bar either: one
--- more big in front
+-- leave-later for one more big in front
 module _
     (c : Levels) (e later n k : ℕ) (b : Triple) (bs : List Triple) (h : e ≤ later)
     (more : leaving c e n bs ≡ drop k bs → leaving c later n bs ≡ leaving c later (n - k) (drop k bs))
     (f : leaving c e (suc n) (b ∷ bs) ≡ drop k bs)
   where
-    abbrev goes-on : Range → Type 0
-    goes-on r = rangeOf c b ≡ r → leaving c later (suc n) (b ∷ bs) ≡ leaving c later (n - k) (drop k bs)
+    abbrev Goal : Range → Type 0
+    Goal r = rangeOf c b ≡ r → leaving c later (suc n) (b ∷ bs) ≡ leaving c later (n - k) (drop k bs)
 
-    found : (s : Span) (u : Bool) → leb e (s .«start_bar») ≡ u → goes-on (Found s)
+    found : (s : Span) (u : Bool) → leb e (s .«start_bar») ≡ u → Goal (Found s)
     found s true u g =
         let all = ap length (sym (leave-here c e n b bs s g (leb-true _ _ u)) ∙ f) in
         absurd (omega (arith, all, length-drop k bs))
@@ -134,10 +133,11 @@ module _
         let low = leb-false _ _ u in
         leave-pass c later n b bs s g (omega (arith, low, h)) ∙ more (sym (leave-pass c e n b bs s g low) ∙ f)
 
-    leave-one : (r : Range) → goes-on r
+    leave-one : (r : Range) → Goal r
     leave-one Missing g = leave-missing c later n b bs g ∙ more (sym (leave-missing c e n b bs g) ∙ f)
     leave-one (Found s) g = found s (leb e (s .«start_bar»)) refl g
 
+-- where the first big that starts at bar e or later is k bigs on, none before it starts at a later bar: so the search for that can begin there
 leave-later :
     (c : Levels) (e later n k : ℕ) (bs : List Triple) → e ≤ later → leaving c e n bs ≡ drop k bs
     → leaving c later n bs ≡ leaving c later (n - k) (drop k bs)

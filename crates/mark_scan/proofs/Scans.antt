@@ -76,7 +76,7 @@ module _
           let there = lt-at (overlapZones c) (at - 1) (omega (arith, earlier, t .zones .count)) in
           let s = superior c zp t (at - 1) earlier theirs (there .0) (there .1) in
           let ends-at = end c zp t (at - 1) earlier theirs (there .0) (there .1) in
-          let scan = done (at - 1) (omega (arith, h .second)) c zp t (there .0) (there .1) in
+          let scan = done (at - 1) (omega (arith, h .not-first)) c zp t (there .0) (there .1) in
           leave-from c _ e first last p (h .later) (h .inside) (rw (s, ends-at, ← h .start) at (scan .begins))
 
       pub zone-scan :

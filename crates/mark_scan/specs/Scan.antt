@@ -104,7 +104,7 @@ ScannedTo n bars prices sups zb rows i = (j : ℕ) → j < i → ScanOf n bars p
 
 -- place r is where the scan of the zone before starts, which is of the same superior and ends no later; and not before `first`
 pub record StartBefore (zb rows : List (List ℕ)) (at first r : ℕ) : Type 0 where
-  pub second : 0 < at
+  pub not-first : 0 < at
   pub same : getD (getD zb (at - 1) []) 0 0 ≡ getD (getD zb at []) 0 0
   pub later : getD (getD zb (at - 1) []) 2 0 ≤ getD (getD zb at []) 2 0
   pub start : r ≡ getD (getD rows (at - 1) []) 2 0

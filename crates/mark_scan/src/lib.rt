@@ -250,8 +250,8 @@ fn scan_of(
     let way = sups[owner][0];
     let first = wide(sups[owner][1]);
     let last = wide(sups[owner][2]);
-    let searched = search_from(zb, scans, at, first);
-    let from = start_of(bars, prices, counts.bigs, searched, last, e);
+    let begin = search_from(zb, scans, at, first);
+    let from = start_of(bars, prices, counts.bigs, begin, last, e);
     let near = zone_limit(zb, counts.zones, rise, at);
     let turn = reversal(sups, counts.superiors, owner + 1, way, e);
     [

@@ -70,7 +70,7 @@ returns-5 c =
     let owners = ends .before .before .before in
     let first = owners .before .before .before in
     inr (record {
-      second = omega (arith, first .if1 .left);
+      not-first = omega (arith, first .if1 .left);
       same = owners .if2 .left;
       later = ends .if3 .left;
       start = ap (λ (s : Scan). s .from) (c .before .before .scan-at .ensures);
