@@ -6,28 +6,29 @@ use mathlib.Core.Option.{Option, none, some}
 use Prim.Native.Nat.{ℕ, zero, suc, _+_, _≤_, _<_}
 use native.Mathlib.Numerals.{add-one}
 use native.Mathlib.Omega.{arith}
-use lib.ListN.{length, take, drop, set, getD, length-map}
+use lib.ListN.{length, take, drop, set, getD, length-map, drop-of-length-le}
+use lib.Seq.{drop-cons}
 use lib.Dec.{eqb}
-use lib.Ieee.{lt}
-use borrow.Author.Tests.{eq-eqb, ne-eqb, le-leb}
+use lib.Ieee.{Float, lt}
+use borrow.Author.Tests.{eq-eqb, ne-eqb}
 use Rattle.chart.specs.declared.Label.{Label}
 use Rattle.chart.specs.declared.Zone.{Zone}
 use Rattle.rules.specs.Lists.{count}
 use Rattle.rules.specs.Records.{Levels}
-use Rattle.rules.specs.Ranges.{rangeOf}
-use Rattle.rules.specs.Labels.{Named, colName, nameOf, lone, labelsFrom}
+use Rattle.rules.specs.Labels.{Named, colName, nameOf, touches, lone, labelsFrom}
 use Rattle.rules.specs.Answer.{given, rowsAnswer}
 use Rattle.laws.proofs.Lists.{map-append}
-use Rattle.laws.proofs.Arrays.{left-more, left-none, one-more}
+use Rattle.laws.proofs.Arrays.{one-more}
+use Rattle.laws.proofs.Answers.{given-rows}
+use Rattle.tables.specs.Tables.{zoneIn, Zoned}
+use Rattle.tables.proofs.Zones.{no-zone, zone-is}
 use Rattle.labels.specs.declared.Last.{Last}
 use Rattle.labels.specs.declared.Last.the-variants as last
 use Rattle.labels.specs.declared.Name.{Name}
 use Rattle.labels.specs.declared.Name.the-variants.{Number, Extension}
 use Rattle.labels.specs.declared.Labelled.{Labelled}
 use Rattle.labels.specs.Bytes.{labelBytes, Extends}
-use Rattle.labels.specs.Touching.{touchesRange}
 use Rattle.labels.specs.Steps.{namedIn, nextName, nameIn, mark, nameBytes, lastAfter, LabelOf}
-use Rattle.labels.proofs.Touching.{lone-marks}
 
 -- ---- the name of a zone, as the tests go
 
@@ -86,6 +87,10 @@ take-map f zero xs = refl
 take-map f (suc n) [] = refl
 take-map f (suc n) (x ∷ xs) = rw (take-map f n xs)
 
+lone-marks : (c : Levels) (z : Zone) → lone c z ≡ mark (eqb (count (touches c z) (c .bigs)) 1)
+unfolding lone
+lone-marks c z = refl
+
 labels-next :
     (c : Levels) (k : Option Named) (z : Zone) (zs : List Zone)
     → labelsFrom c k (z ∷ zs) ≡ (lone c z ++ nameBytes (nameOf k z)) ∷ labelsFrom c (lastAfter k z (nameOf k z)) zs
@@ -102,23 +107,23 @@ labels-next c k z zs = go (nameOf k z)
     go none = refl
     go (some n) = refl
 
-module _ (c : Levels) (zones : List Zone) (n k : ℕ) (last : Last) (rows : List Label) (all : List (List ℕ)) where
-  pub labels-step :
-      (d : Zone) (alone : Bool) (r : Labelled) → k < n → n ≤ length zones → k < length rows
-      → alone ≡ eqb (count (touchesRange (getD zones k d)) (map (rangeOf c) (c .bigs))) 1
-      → LabelOf (namedIn last) (getD zones k d) alone r
-      → map labelBytes (take k rows) ++ labelsFrom c (namedIn last) (drop k (take n zones)) ≡ all
-      → map labelBytes (take (k + 1) (set rows k (r .label))) ++ labelsFrom c (namedIn (r .last)) (drop (k + 1) (take n zones)) ≡ all
-  labels-step d alone r h fits w e s i =
-      rw (one-more rows k (r .label) w, map-append, append-assoc, s .text, s .last, e, ← lone-marks c (getD zones k d))
-      (rw (left-more n k zones d h fits, labels-next) at i)
+-- the zone at place k of the tables is labelled
+module _
+    (c : Levels) (zs : List Zone) (n : ℕ) (zb : List (List ℕ)) (zp : List (List Float)) (t : Zoned zs n zb zp) (k : ℕ) (last : Last)
+    (rows : List Label) (all : List (List ℕ)) (left : map labelBytes (take k rows) ++ labelsFrom c (namedIn last) (drop k zs) ≡ all)
+  where
+    pub labels-step :
+        (z : Zone) (alone : Bool) (r : Labelled) → k < n → k < length rows → z ≡ zoneIn (getD zb k []) (getD zp k [])
+        → alone ≡ eqb (count (touches c z) (c .bigs)) 1 → LabelOf (namedIn last) z alone r
+        → map labelBytes (take (k + 1) (set rows k (r .label))) ++ labelsFrom c (namedIn (r .last)) (drop (k + 1) zs) ≡ all
+    labels-step z alone r h w is e s =
+        let one : drop k zs ≡ z ∷ drop (k + 1) zs = rw (is, zone-is zs n zb zp t k h, add-one k) (drop-cons zs k no-zone (omega (arith, t .count))) in
+        rw (one-more rows k (r .label) w, map-append, append-assoc, s .text, s .last, e, ← lone-marks c z) (rw (one, labels-next) at left)
 
-  pub labels-end :
-      n ≤ k → k ≤ n → n ≤ length zones → n ≤ length rows
-      → map labelBytes (take k rows) ++ labelsFrom c (namedIn last) (drop k (take n zones)) ≡ all
-      → rowsAnswer 0 n (map labelBytes rows) ≡ given all
-  unfolding rowsAnswer labelsFrom
-  labels-end over most fits w i =
-      let same : k ≡ n = omega arith in
-      rw (le-leb n (length (map labelBytes rows)) (omega (arith, length-map rows labelBytes)), take-map labelBytes n rows)
-      (ap given (rw (left-none n k zones over fits, append-nil, same) at i))
+    pub labels-end : n ≤ k → k ≤ n → n ≤ length rows → rowsAnswer 0 n (map labelBytes rows) ≡ given all
+    unfolding labelsFrom
+    labels-end over most w =
+        let same : k ≡ n = omega arith in
+        let none = drop-of-length-le zs {i = k} (omega (arith, t .count)) in
+        given-rows (map labelBytes rows) n (omega (arith, length-map rows labelBytes))
+        ∙ ap given (take-map labelBytes n rows ∙ (rw (none, append-nil, same) at left))

@@ -2,24 +2,22 @@
 use chart::Chart;
 use chart::Label;
 use chart::Range;
-use chart::Slot;
 use chart::Zone;
 ghost use mathlib.Core.Path.{_≡_};
+ghost use mathlib.Core.Bool.{cond};
 ghost use Prim.Native.Nat.{_+_, _≤_, _<_};
 ghost use mathlib.Core.List.{List, [], _∷_, map};
 ghost use mathlib.Core.Option.{none};
-ghost use lib.ListN.{length, take};
 ghost use lib.Dec.{eqb};
-ghost use Rattle.chart.specs.Table.{rangesIn};
+ghost use Rattle.chart.specs.declared.Zone.{Zone};
 ghost use Rattle.rules.specs.Answer.{refused, given, rowsAnswer};
 ghost use Rattle.rules.specs.Lists.{count};
 ghost use Rattle.rules.specs.Records.{Levels};
-ghost use Rattle.rules.specs.Ranges.{rangeOf};
-ghost use Rattle.rules.specs.Labels.{letter, colName, nameOf, labelsFrom};
+ghost use Rattle.rules.specs.Labels.{touches, letter, colName, nameOf, labelsFrom};
 ghost use Rattle.rules.specs.Calls.{labelsCall};
-ghost use Rattle.columns.specs.Columns.{Column, startOf, endOf};
+ghost use Rattle.tables.specs.Tables.{Bigs, Zoned};
 ghost use Rattle.labels.specs.Bytes.{labelBytes, Extends};
-ghost use Rattle.labels.specs.Touching.{touchesRange, touch};
+ghost use Rattle.labels.specs.Touching.{touchesRange};
 ghost use Rattle.labels.specs.Steps.{namedIn, nextName, nameIn, mark, nameBytes, LabelOf};
 
 // The answer of the label call: a number, and where it is 0 the first `count` rows.
@@ -72,25 +70,29 @@ pub fn col_name(n: u64) -> Label
     with_name(NO_LABEL, n)
 }
 
-// 1 where a range's bars (start, end) touch a zone's (from, to), else 0.
-fn touches(from: u32, to: u32, start: u32, end: u32) -> u16
-    ensures { λ r. ⌜ r ≡ touch from to start end ⌝ }
+// 1 where a range's bars touch a zone's, else 0. A missing range has no bars.
+fn touches(zone: Zone, range: Range) -> u16
+    ensures { λ r. ⌜ r ≡ cond (touchesRange zone range) 1 0 ⌝ }
 {
-    if start <= to && from <= end { 1 } else { 0 }
+    let Range::Found(s) = range else {
+        return 0;
+    };
+    if s.start_bar <= zone.end_bar && zone.start_bar <= s.end_bar {
+        1
+    } else {
+        0
+    }
 }
 
-// Whether exactly one of m ranges, given by columns of their bars, touches the zone. Bars are counted from 1 in columns, so a missing
-// range (0, 0) ends before every zone.
-fn lone(starts: &[u32], ends: &[u32], m: usize, zone: Zone) -> bool
-    requires { ⌜ (m ≤ 256) × (m ≤ length (now starts)) × (m ≤ length (now ends)) ⌝ }
-    ensures { λ r. ⌜ ((ranges : List Range) → Column startOf m (now (starts .entry)) ranges → Column endOf m (now (ends .entry)) ranges → r ≡ eqb (count (touchesRange zone) ranges) 1) ⌝ }
+// Whether exactly one of the m bigs in the tables touches the zone.
+fn lone(bars: &[[u16; 6]; 256], prices: &[[f64; 3]; 256], m: usize, zone: Zone) -> bool
+    requires { ⌜ m ≤ 256 ⌝ }
+    ensures { λ r. ⌜ ((c : Levels) → Bigs c m (now (bars .entry)) (now (prices .entry)) → r ≡ eqb (count (touches c zone) (c .bigs)) 1) ⌝ }
 {
-    let from = zone.start_bar as u32 + 1;
-    let to = zone.end_bar as u32 + 1;
     let mut n: u16 = 0;
-    let mut k = 0;
+    let mut k = 0usize;
     while k < m {
-        n += touches(from, to, starts[k], ends[k]);
+        n += touches(zone, tables::range_at(bars, prices, k));
         k += 1;
     }
     n == 1
@@ -170,20 +172,25 @@ fn label_of(last: Last, zone: Zone, alone: bool) -> Labelled
     }
 }
 
-// The labels of the first `count` zones, in order.
-fn labels_of(zones: [Zone; 256], count: usize, m: usize, slots: [Slot; 256]) -> LabelRows
-    requires { ⌜ (count ≤ 256) × (m ≤ 256) ⌝ }
-    ensures { λ r. ⌜ ((c : Levels) → rangesIn m slots ≡ map (rangeOf c) (c .bigs) → rowsAnswer (r .number) (r .count) (map labelBytes (r .rows)) ≡ given (labelsFrom c none (take count zones))) ⌝ }
+// The labels of the n zones in two tables, in order, over the m bigs in two others.
+fn labels_of(
+    zb: &[[u16; 5]; 256],
+    zp: &[[f64; 4]; 256],
+    n: usize,
+    bars: &[[u16; 6]; 256],
+    prices: &[[f64; 3]; 256],
+    m: usize,
+) -> LabelRows
+    requires { ⌜ (n ≤ 256) × (m ≤ 256) ⌝ }
+    ensures { λ r. ⌜ ((c : Levels) (zs : List Zone) → Bigs c m (now (bars .entry)) (now (prices .entry)) → Zoned zs n (now (zb .entry)) (now (zp .entry))
+        → rowsAnswer (r .number) (r .count) (map labelBytes (r .rows)) ≡ given (labelsFrom c none zs)) ⌝ }
 {
-    let bars = columns::bars_of(slots, m);
-    let starts = bars.starts;
-    let ends = bars.ends;
     let mut rows = [NO_LABEL; 256];
     let mut last = Last::Nothing;
-    let mut k = 0;
-    while k < count {
-        let zone = zones[k];
-        let alone = lone(&starts, &ends, m, zone);
+    let mut k = 0usize;
+    while k < n {
+        let zone = tables::zone_at(zb, zp, k);
+        let alone = lone(bars, prices, m, zone);
         let next = label_of(last, zone, alone);
         let label = next.label;
         rows[k] = label;
@@ -192,7 +199,7 @@ fn labels_of(zones: [Zone; 256], count: usize, m: usize, slots: [Slot; 256]) -> 
     }
     LabelRows {
         number: 0,
-        count: count as u16,
+        count: n as u16,
         rows: rows,
     }
 }
@@ -213,18 +220,23 @@ fn refusal(number: u8) -> LabelRows
 pub fn detect_bigseg_trend_zhongshus(chart: Chart) -> LabelRows
     ensures { λ r. ⌜ rowsAnswer (r .number) (r .count) (map labelBytes (r .rows)) ≡ labelsCall chart ⌝ }
 {
-    if levels::bad_chart(chart) {
-        return refusal(21);
+    let mut bars = [[0u16; 6]; 256];
+    let mut prices = [[0.0; 3]; 256];
+    let mut sups = [[0u16; 5]; 256];
+    let mut zb = [[0u16; 5]; 256];
+    let mut zp = [[0.0; 4]; 256];
+    let begun = zones::tables_of(
+        chart,
+        0,
+        &mut bars,
+        &mut prices,
+        &mut sups,
+        &mut zb,
+        &mut zp,
+    );
+    if begun.number != 0 {
+        return refusal(begun.number);
     }
-    let ranges = levels::ranges_of(chart);
-    let owners = chart.superiors;
-    let members = chart.bigs;
-    let slots = ranges.slots;
-    let m = chart.big_count as usize;
-    let found = zones::overlap(owners, chart.superior_count as usize, members, m, slots);
-    if found.number != 0 {
-        return refusal(found.number);
-    }
-    let rows = found.rows;
-    labels_of(rows, found.count as usize, m, slots)
+    let counts = begun.counts;
+    labels_of(&zb, &zp, counts.zones, &bars, &prices, counts.bigs)
 }

@@ -1,57 +1,39 @@
--- `labels::labels_of` meets its contract. The invariant: the rows so far, and the labels of the zones that are left, are the labels of all; and the next name is at most
--- the number of zones passed. Assumes nothing.
+-- `labels::labels_of` meets its contract. The invariant: the rows so far, and the labels of the zones that are left, are the labels of all; and
+-- the next name is at most the number of zones passed. Assumes nothing.
 use mathlib.Core.Path.{_≡_, refl}
-use mathlib.Core.List.{_++_, map}
+use mathlib.Core.List.{List, _++_, map}
 use mathlib.Core.Option.{none}
 use Prim.Native.Nat.{_≤_, _-_}
 use native.Mathlib.Omega.{arith}
 use lib.ListN.{length, take, drop}
 use borrow.Author.Needs.{needs}
+use Rattle.chart.specs.declared.Zone.{Zone}
 use Rattle.rules.specs.Records.{Levels}
-use Rattle.rules.specs.Ranges.{rangeOf}
 use Rattle.rules.specs.Labels.{labelsFrom}
+use Rattle.tables.specs.Tables.{Bigs, Zoned}
 use Rattle.labels.specs.Bytes.{labelBytes}
-use Rattle.columns.specs.Columns.{Column, startOf, endOf}
 use Rattle.labels.specs.Steps.{namedIn, nextName}
 use Rattle.labels.proofs.Steps.{label-next, labels-step, labels-end}
 use Rattle.labels.proofs.labels_of.Statement.{statement}
 use Rattle.labels.proofs.labels_of.Tie as tie
 
 abbrev Inv-loop : tie.InvT-loop
-Inv-loop count m zones starts ends rows₀ last₀ k₀ rows last k =
-    (k ≤ count) × (length rows ≡ 256) × (nextName (namedIn last) ≤ k)
-    × ((c : Levels) → Column startOf m starts (map (rangeOf c) (c .bigs)) → Column endOf m ends (map (rangeOf c) (c .bigs))
-    → map labelBytes (take k rows) ++ labelsFrom c (namedIn last) (drop k (take count zones)) ≡ labelsFrom c none (take count zones))
+Inv-loop zb zp n bars prices m rows₀ last₀ k₀ rows last k =
+    (k ≤ n) × (length rows ≡ 256) × (nextName (namedIn last) ≤ k)
+    × ((c : Levels) (zs : List Zone) → Bigs c m bars prices → Zoned zs n zb zp
+    → map labelBytes (take k rows) ++ labelsFrom c (namedIn last) (drop k zs) ≡ labelsFrom c none zs)
 
 abbrev μ-loop : tie.MeasureT-loop
-μ-loop count m zones starts ends rows₀ last₀ k₀ rows last k = count - k
-
--- the count is within the array
-within : (c : tie.Start Inv-loop μ-loop) → c .args .count ≤ length (c .args .t1)
-within c = omega arith
-
-bars-of-requires : tie.Need-bars-of-requires Inv-loop μ-loop
-bars-of-requires c κs = search needs
+μ-loop zb zp n bars prices m rows₀ last₀ k₀ rows last k = n - k
 
 loop-holds : tie.Need-loop-holds Inv-loop μ-loop
-loop-holds c = (search needs, refl, search needs, λ c first last. refl)
+loop-holds c = (search needs, refl, search needs, λ l zs t z. refl)
 
-mul-zone : tie.Need-mul-zone Inv-loop μ-loop
-mul-zone c = search needs
-
-array-copy-out-zone : tie.Need-array-copy-out-zone Inv-loop μ-loop
-array-copy-out-zone c = search needs
-
-slice-aggregate-lone : tie.Need-slice-aggregate-lone Inv-loop μ-loop
-slice-aggregate-lone c = search needs
-
-slice-aggregate-lone-2 : tie.Need-slice-aggregate-lone-2 Inv-loop μ-loop
-slice-aggregate-lone-2 c = search needs
+zone-at-requires : tie.Need-zone-at-requires Inv-loop μ-loop
+zone-at-requires c κs = search needs
 
 lone-requires : tie.Need-lone-requires Inv-loop μ-loop
-lone-requires c κs =
-    let columns = c .before .before .before .before .before .before .before .bars-of .ensures in
-    (search needs, columns .0 .long, columns .1 .long)
+lone-requires c κs = search needs
 
 label-of-requires : tie.Need-label-of-requires Inv-loop μ-loop
 label-of-requires c κs = search needs
@@ -71,26 +53,26 @@ loop-less c = search needs
 loop-again : tie.Need-loop-again Inv-loop μ-loop
 loop-again c =
     let labelled = c .before in
-    let at-loop = labelled .before .before .before .before .before .before in
-    let start = at-loop .before .before .before .before in
-    let i = at-loop .loop .inv in (
+    let counted = labelled .before in
+    let read = counted .before in
+    let turn = read .before in
+    let head = turn .before in
+    let inv = head .loop .inv in (
       search needs,
       search needs,
       omega (arith, label-next _ _ _ _ (labelled .label-of .ensures)),
-      λ levels first last. labels-step levels (start .args .t1) (start .args .count) (at-loop .loop .k) (at-loop .loop .last) (at-loop .loop .rows) _ _ _ _
-          (search needs) (within start) (search needs) (labelled .before .lone .ensures _ first last) (labelled .label-of .ensures) (i .3 levels first last),
+      λ l zs t z. labels-step l zs _ _ _ z (head .loop .k) (head .loop .last) (head .loop .rows) _ (inv .3 l zs t z) _ _ _
+          (turn .loop-test .taken) (search needs) (read .zone-at .ensures) (counted .lone .ensures l t) (labelled .label-of .ensures),
     )
 
-cast-t29 : tie.Need-cast-t29 Inv-loop μ-loop
-cast-t29 c = search needs
+cast-t20 : tie.Need-cast-t20 Inv-loop μ-loop
+cast-t20 c = search needs
 
 returns : tie.Need-returns Inv-loop μ-loop
-returns c levels same =
-    let at-loop = c .before in
-    let start = at-loop .before .before .before .before in
-    let i = at-loop .loop .inv in
-    let columns = at-loop .before .before .before .bars-of .ensures in
-    labels-end levels (start .args .t1) (start .args .count) (at-loop .loop .k) (at-loop .loop .last) (at-loop .loop .rows) _ (search needs) (i .0) (within start) (search needs) (i .3 levels (rw same at columns .0) (rw same at columns .1))
+returns c l zs t z =
+    let head = c .before in
+    let inv = head .loop .inv in
+    labels-end l zs _ _ _ z (head .loop .k) (head .loop .last) (head .loop .rows) _ (inv .3 l zs t z) (c .loop-test .left) (inv .0) (search needs)
 
 pub labels-of-spec : {M : Type 1} → statement M
 labels-of-spec =
@@ -98,12 +80,8 @@ labels-of-spec =
     (tie.spec
     Inv-loop
     μ-loop
-    bars-of-requires
     loop-holds
-    mul-zone
-    array-copy-out-zone
-    slice-aggregate-lone
-    slice-aggregate-lone-2
+    zone-at-requires
     lone-requires
     label-of-requires
     mul-rows
@@ -111,5 +89,5 @@ labels-of-spec =
     add-k
     loop-less
     loop-again
-    cast-t29
+    cast-t20
     returns)
