@@ -11,7 +11,8 @@ ghost use lib.ListN.{length, take};
 ghost use lib.Dec.{eqb};
 ghost use Rattle.chart.specs.declared.Triple.{Triple};
 ghost use Rattle.rules.specs.Records.{levelsOf};
-ghost use Rattle.rules.specs.Refusals.{refuse, badPrices, badStroke, unjoined, badTriple, overfull, held, brokenStrokes, brokenTriples, brokenLevels, strokeRefusal, tripleRefusal, lengthenRefusal, withdrawRefusal, deriveRefusal};
+ghost use Rattle.rules.specs.Refusals.{refuse, badPrices, badStroke, unjoined, badTriple, overfull, held, brokenStrokes, brokenTriples, brokenLevels};
+ghost use Rattle.rules.specs.Refusals.{strokeRefusal, tripleRefusal, lengthenRefusal, withdrawRefusal, deriveRefusal};
 
 // ---- one record
 
