@@ -13,7 +13,8 @@ ghost use Rattle.rules.specs.Answer.{rowsAnswer, given, refused};
 ghost use Rattle.rules.specs.Records.{isUp, levelsOf};
 ghost use Rattle.rules.specs.Classes.{beyond, atOrBeyond, atOrShort, walk, moved, extend, extendAll, classes};
 ghost use Rattle.rules.specs.Calls.{segmentClassesCall, bigClassesCall};
-ghost use Rattle.classes.specs.Items.{itemOf, itemAt, itemsOf, Case2, Wanted, Case3, EndsBefore, Tries, Holds, levelOf, itemIn, itemFrom, readOf, Gathers, Ends};
+ghost use Rattle.classes.specs.Items.{itemOf, itemAt, itemsOf, Case2, Wanted, Case3, EndsBefore, Tries, Holds};
+ghost use Rattle.classes.specs.Items.{levelOf, itemIn, itemFrom, readOf, Gathers, Ends};
 
 // The answer of a class call: a number, and where it is 0 the first `count` rows.
 pub struct ClassRows {
@@ -246,7 +247,8 @@ fn walk<'a>(
     on: bool,
 ) -> Rows
     requires { ⌜ n ≤ 256 ⌝ }
-    ensures { λ r. ⌜ Holds r (walk on (itemsOf n (now (directions .entry)) (now (starts .entry)) (now (ends .entry))) none 0 0 (itemsOf n (now (directions .entry)) (now (starts .entry)) (now (ends .entry)))) ⌝ }
+    ensures { λ r. ⌜ Holds r (walk on (itemsOf n (now (directions .entry)) (now (starts .entry)) (now (ends .entry))) none 0 0
+        (itemsOf n (now (directions .entry)) (now (starts .entry)) (now (ends .entry)))) ⌝ }
 {
     let mut rows = [NO_CLASS; 256];
     let mut count = 0u16;
@@ -380,7 +382,8 @@ fn classes_of<'a>(
     on: bool,
 ) -> ClassRows
     requires { ⌜ (1 < n) × (n ≤ 256) ⌝ }
-    ensures { λ r. ⌜ rowsAnswer (r .number) (r .count) (r .rows) ≡ given (classes on (itemsOf n (now (directions .entry)) (now (starts .entry)) (now (ends .entry)))) ⌝ }
+    ensures { λ r. ⌜ rowsAnswer (r .number) (r .count) (r .rows)
+        ≡ given (classes on (itemsOf n (now (directions .entry)) (now (starts .entry)) (now (ends .entry)))) ⌝ }
 {
     let found = walk(directions, starts, ends, n, on);
     let all = extend_all(directions, starts, ends, n, found);
@@ -468,7 +471,8 @@ fn item_from(t: Triple, u: Triple, s: Stroke, e: Stroke, below: u16, strokes: u1
 // The items of the bigs or of the segments. An index is made safe before its place is read, and tested behind that, by item_from.
 fn items_of(chart: Chart, bigs: bool) -> Gathered
     requires { ⌜ (chart .«stroke_count» ≤ 512) × (chart .«segment_count» ≤ 256) × (chart .«big_count» ≤ 256) ⌝ }
-    ensures { λ r. ⌜ Gathers (itemIn bigs (levelsOf chart)) (levelOf bigs (levelsOf chart)) (r .lacking) (itemsOf (cond bigs (chart .«big_count») (chart .«segment_count»)) (r .directions) (r .starts) (r .ends)) ⌝ }
+    ensures { λ r. ⌜ Gathers (itemIn bigs (levelsOf chart)) (levelOf bigs (levelsOf chart)) (r .lacking)
+        (itemsOf (cond bigs (chart .«big_count») (chart .«segment_count»)) (r .directions) (r .starts) (r .ends)) ⌝ }
 {
     let strokes = chart.stroke_count;
     let segments = chart.segment_count;
