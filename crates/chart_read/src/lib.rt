@@ -339,7 +339,8 @@ fn scan(bytes: &[u8], places: usize) -> Loaded
 fn fill_bars(bytes: &[u8], highs: &mut [f64], lows: &mut [f64])
     requires { ⌜ length (now highs) ≡ length (now lows) ⌝ }
     requires { ⌜ isGiven (readFile (length (now highs)) (now bytes)) ≡ true ⌝ }
-    ensures { λ _. ⌜ record { highs = now (highs .exit); lows = now (lows .exit) } ≡ slicesAfter (readFile (length (now (highs .entry))) (now (bytes .entry))) (record { highs = now (highs .entry); lows = now (lows .entry) }) ⌝ }
+    ensures { λ _. ⌜ record { highs = now (highs .exit); lows = now (lows .exit) }
+        ≡ slicesAfter (readFile (length (now (highs .entry))) (now (bytes .entry))) (record { highs = now (highs .entry); lows = now (lows .entry) }) ⌝ }
 {
     let counts = Counts {
         strokes: 0,
@@ -376,8 +377,11 @@ fn fill_bars(bytes: &[u8], highs: &mut [f64], lows: &mut [f64])
 // The chart of a file, and its bars in the first places of the lent slices. The whole file is tested first, so that a refused one
 // leaves the slices as they were.
 pub fn read_chart(bytes: &[u8], highs: &mut [f64], lows: &mut [f64]) -> Loaded
-    ensures { λ r. ⌜ loaded (r .number) (r .place) (r .chart) (r .bars) (record { highs = now (highs .exit); lows = now (lows .exit) }) ≡ readCall (record { highs = now (highs .entry); lows = now (lows .entry) }) (now (bytes .entry)) ⌝ }
-    ensures { λ r. ⌜ record { highs = now (highs .exit); lows = now (lows .exit) } ≡ slicesAfter (readCall (record { highs = now (highs .entry); lows = now (lows .entry) }) (now (bytes .entry))) (record { highs = now (highs .entry); lows = now (lows .entry) }) ⌝ }
+    ensures { λ r. ⌜ loaded (r .number) (r .place) (r .chart) (r .bars) (record { highs = now (highs .exit); lows = now (lows .exit) })
+        ≡ readCall (record { highs = now (highs .entry); lows = now (lows .entry) }) (now (bytes .entry)) ⌝ }
+    ensures { λ r. ⌜ record { highs = now (highs .exit); lows = now (lows .exit) }
+        ≡ slicesAfter (readCall (record { highs = now (highs .entry); lows = now (lows .entry) }) (now (bytes .entry)))
+        (record { highs = now (highs .entry); lows = now (lows .entry) }) ⌝ }
 {
     if highs.len() != lows.len() {
         return refusal(8, 0);
