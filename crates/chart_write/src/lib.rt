@@ -297,7 +297,8 @@ pub struct Written {
 // Writes bars, strokes, segments, bigs, superiors: 21; 8 slices unequal; 1 in either slice; 3 buffer too short. A refused writing
 // leaves the buffer as it was.
 pub fn write_chart(chart: Chart, highs: &[f64], lows: &[f64], buffer: &mut [u8]) -> Written
-    ensures { λ r. ⌜ answered (r .number) (r .count) ≡ writeCall chart (record { highs = now (highs .entry); lows = now (lows .entry) }) (now (buffer .entry)) ⌝ }
+    ensures { λ r. ⌜ answered (r .number) (r .count)
+        ≡ writeCall chart (record { highs = now (highs .entry); lows = now (lows .entry) }) (now (buffer .entry)) ⌝ }
     ensures { λ r. ⌜ now (buffer .exit) ≡ bufferAfter chart (record { highs = now (highs .entry); lows = now (lows .entry) }) (now (buffer .entry)) ⌝ }
     ensures { λ r. ⌜ ((r .number ≡ 0 → ⊥) → r .count ≡ 0) ⌝ }
 {
