@@ -13,7 +13,8 @@ ghost use Rattle.rules.specs.File.{Content, marksOf, marksOutput};
 // Of a chart that is read, with its bars: a line per 3+N mark, or the refusal of the mark call, whose place is 0.
 fn marks_of_chart(chart: Chart, highs: &[f64], lows: &[f64]) -> Text
     requires { ⌜ badChart chart ≡ false ⌝ }
-    ensures { λ r. ⌜ take (r .len) (r .bytes) ≡ marksOf (record { levels = levelsOf chart; bars = record { highs = now (highs .entry); lows = now (lows .entry) } }) ⌝ }
+    ensures { λ r. ⌜ take (r .len) (r .bytes)
+        ≡ marksOf (record { levels = levelsOf chart; bars = record { highs = now (highs .entry); lows = now (lows .entry) } }) ⌝ }
     ensures { λ r. ⌜ r .len ≤ 24576 ⌝ }
 {
     let found = three_n::bigseg_3n_marks_all_zhongshu(chart, highs, lows);
