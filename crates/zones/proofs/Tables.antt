@@ -2,20 +2,17 @@
 use Prim.Native.Nat.{ℕ, _+_, _≤_, _<_}
 use native.Mathlib.Omega.{arith}
 use native.Mathlib.Numerals.{add-one}
-use mathlib.Core.Path.{_≡_, refl, sym, ap, _∙_}
+use mathlib.Core.Path.{_≡_, sym, ap, _∙_}
 use mathlib.Core.Bool.{Bool, true, false, cond}
 use mathlib.Core.List.{List, [], _∷_, _++_, append-assoc, append-nil}
 use lib.ListN.{length, take, getD, set, length-append}
 use lib.Seq.{take-all, take-suc-set}
-use lib.Dec.{ltb}
-use borrow.Author.Tests.{lt-ltb, le-ltb}
 use lib.Ieee.{Float}
 use Rattle.chart.specs.declared.Triple.{Triple}
 use Rattle.chart.specs.declared.Span.{Span}
 use Rattle.chart.specs.declared.Range.{Range}
 use Rattle.chart.specs.declared.Range.the-variants.{Found, Missing}
 use Rattle.chart.specs.declared.Zone.{Zone}
-use Rattle.chart.specs.declared.Chart.{Chart}
 use Rattle.rules.specs.Answer.{given, rowsAnswer}
 use Rattle.rules.specs.Zones.{Member, begin, joins, join, cut, runs, zonesOf, zonesFrom}
 use Rattle.laws.proofs.Answers.{given-rows}
@@ -139,7 +136,8 @@ module _ (h d first last : ℕ) (bars : List (List ℕ)) (prices : List (List Fl
             let way = member-way range level m bars prices bigs i (omega arith) in
             let here =
             one-found (λ (x : Triple). range (getD level i no-triple)) d i (getD level i no-triple) s (λ e. opposes (way ∙ e)) (sym (member-range range level m bars prices bigs i (omega arith)) ∙ found) in
-            let step : left-of range level i ≡ record { index = i; span = s } ∷ left-of range level (i + 1) = still-more range level d last i no-triple more (omega (arith, bigs .count)) ∙ rw here in
+            let step : left-of range level i ≡ record { index = i; span = s } ∷ left-of range level (i + 1) =
+            still-more range level d last i no-triple more (omega (arith, bigs .count)) ∙ rw here in
             rw (← f, took .1 (left-of range level (i + 1)), ← step) (now .left range level m inside bigs)
 
         pub goes-on : closed ≡ false → Among count zb zp true y (i + 1)

@@ -1,6 +1,5 @@
 -- Zones in tables, as the overlap rule leaves them, and what a call on a chart begins with. Assumes nothing.
 use Prim.Native.Nat.{ℕ, _≤_, _<_}
-use mathlib.Core.Path.{_≡_}
 use mathlib.Core.Bool.{cond}
 use mathlib.Core.List.{List, _++_}
 use lib.ListN.{length}

@@ -1,5 +1,4 @@
 -- `zones::detect_bigseg_zhongshus_by_overlap` meets its contract. Assumes nothing.
-use native.Mathlib.Omega.{arith}
 use mathlib.Core.Path.{refl, _∙_}
 use borrow.Author.Needs.{needs}
 use Rattle.zones.proofs.Call.{zones-refused, zones-given}
