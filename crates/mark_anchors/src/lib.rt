@@ -109,10 +109,8 @@ fn hit_rows(
 ) -> usize
     requires { ⌜ (aim .bigs ≤ 256) × (513 ≤ length (now keys)) × (513 ≤ length (now orders)) ⌝ }
     requires { ⌜ HasRoom (aim .bigs) (now bars) (now prices) n (now keys) ⌝ }
-    ensures {
-        λ r. ⌜ HitRows (now (bars .entry)) (now (prices .entry)) (record { highs = now (highs .entry); lows = now (lows .entry) }) aim n
-            (now (keys .entry)) (now (orders .entry)) r (now (keys .exit)) (now (orders .exit)) ⌝
-    }
+    ensures { λ r. ⌜ HitRows (now (bars .entry)) (now (prices .entry)) (record { highs = now (highs .entry); lows = now (lows .entry) }) aim n
+        (now (keys .entry)) (now (orders .entry)) r (now (keys .exit)) (now (orders .exit)) ⌝ }
     ensures { λ r. ⌜ KeepsRoom (aim .bigs) (now (bars .entry)) (now (prices .entry)) n (now (keys .entry)) r (now (keys .exit)) ⌝ }
     ensures { λ r. ⌜ Grown n (now (keys .entry)) (now (orders .entry)) r (now (keys .exit)) (now (orders .exit)) ⌝ }
 {
@@ -156,10 +154,8 @@ pub fn anchor_rows(
 ) -> usize
     requires { ⌜ (side .anchors ≤ side .bigs) × (side .bigs ≤ 256) × (513 ≤ length (now keys)) × (513 ≤ length (now orders)) ⌝ }
     requires { ⌜ HasRoom (side .bigs) (now bars) (now prices) n (now keys) ⌝ }
-    ensures {
-        λ r. ⌜ AnchorRows (now (bars .entry)) (now (prices .entry)) (record { highs = now (highs .entry); lows = now (lows .entry) }) side limit n
-            (now (keys .entry)) (now (orders .entry)) r (now (keys .exit)) (now (orders .exit)) ⌝
-    }
+    ensures { λ r. ⌜ AnchorRows (now (bars .entry)) (now (prices .entry)) (record { highs = now (highs .entry); lows = now (lows .entry) }) side limit n
+        (now (keys .entry)) (now (orders .entry)) r (now (keys .exit)) (now (orders .exit)) ⌝ }
     ensures { λ r. ⌜ KeepsRoom (side .bigs) (now (bars .entry)) (now (prices .entry)) n (now (keys .entry)) r (now (keys .exit)) ⌝ }
     ensures { λ r. ⌜ Grown n (now (keys .entry)) (now (orders .entry)) r (now (keys .exit)) (now (orders .exit)) ⌝ }
 {
@@ -184,7 +180,17 @@ pub fn anchor_rows(
             bar: anchor.bar,
             buy: side.buy,
         };
-        count = hit_rows(bars, prices, aim, highs, lows, keys, orders, count, &mut places);
+        count = hit_rows(
+            bars,
+            prices,
+            aim,
+            highs,
+            lows,
+            keys,
+            orders,
+            count,
+            &mut places,
+        );
     }
     count
 }

@@ -1,0 +1,147 @@
+-- The rows of all anchors: one anchor more. Assumes nothing.
+use Prim.Native.Nat.{ℕ, _+_, _<_, _≤_}
+use native.Mathlib.Omega.{arith}
+use native.Mathlib.Numerals.{add-one}
+use mathlib.Core.Path.{_≡_, refl, sym, ap, subst, _∙_}
+use mathlib.Core.Bool.{Bool, not}
+use mathlib.Core.List.{List, [], _∷_, map, foldl, foldl-append}
+use mathlib.Core.Option.{none, some}
+use lib.ListN.{take, drop, getD, getElem?, drop-of-length-le}
+use lib.Seq.{drop-cons}
+use lib.Ieee.{Float, nan}
+use Rattle.chart.specs.declared.Stroke.{Stroke}
+use Rattle.chart.specs.declared.NMark.{NMark}
+use Rattle.rules.specs.Lists.{keep, before, each, collect}
+use Rattle.rules.specs.Records.{Levels, Quotes}
+use Rattle.rules.specs.Ranges.{lastStroke}
+use Rattle.rules.specs.Marks.{beats, numbered, push3N, anchorPrice, anchorBars, anchorStop, anchorNumbered, reaches}
+use Rattle.laws.proofs.Lists.{lt-at, at-getD}
+use Rattle.tables.specs.Tables.{Bigs}
+use Rattle.mark_scan.specs.Scan.{Limits}
+use Rattle.mark_hits.specs.declared.Price.{Price}
+use Rattle.mark_hits.specs.declared.Price.the-variants as price
+use Rattle.mark_hits.specs.declared.Side.{Side}
+use Rattle.mark_hits.specs.declared.Anchor.{Anchor}
+use Rattle.mark_hits.specs.Anchors.{endsIn, priceOf, anchorIn, AnchorAt, AnchorsOf}
+use Rattle.numbering.specs.Rows.{marksIn, Grown}
+use Rattle.numbering.proofs.Numbers.{grown-none, grown-then}
+use Rattle.mark_anchors.specs.declared.Aim.{Aim}
+use Rattle.mark_anchors.specs.Anchored.{KeepsRoom, barsIn, hitMarks, aimMarks, HitRows, AnchorRows}
+
+-- ---- what one anchor gives
+
+module _ (c : Levels) (q : Quotes) (buy : Bool) (a : Stroke) (x : Anchor) (is : AnchorAt c buy a x) where
+  numbers-nowhere : x .price ≡ price.Nowhere → anchorNumbered c q buy a ≡ []
+  unfolding anchorNumbered
+  numbers-nowhere e = rw (anchorNumbered, is .price ∙ ap priceOf e)
+
+  bars-behind : anchorBars c buy a ≡ barsIn c buy (x .bar) (drop (x .from) (c .bigs))
+  unfolding anchorBars
+  bars-behind =
+      ap (map (λ (s : Stroke). s .«end_bar»))
+      (is .behind (not buy) ∙ ap (λ (b : ℕ). endsIn c (not buy) b (drop (x .from) (c .bigs))) (is .bar))
+
+  numbers-at :
+      (p : Float) → x .price ≡ price.At p
+      → anchorNumbered c q buy a ≡ hitMarks q buy p (reaches (anchorStop c buy)) 0 (barsIn c buy (x .bar) (drop (x .from) (c .bigs)))
+  unfolding anchorNumbered
+  numbers-at p e =
+      let opened : anchorNumbered c q buy a ≡ hitMarks q buy p (reaches (anchorStop c buy)) 0 (anchorBars c buy a) =
+      rw (anchorNumbered, is .price ∙ ap priceOf e) in
+      opened ∙ ap (hitMarks q buy p (reaches (anchorStop c buy)) 0) bars-behind
+
+-- ---- all anchors
+
+abbrev anchorsIn : Levels → Side → List Stroke
+anchorsIn c s = collect (lastStroke c) (take (s .anchors) (c .bigs))
+
+-- of the anchors, which have rows, those before place i are looked at, with rows from n to count
+pub record Anchoring
+    (bars : List (List ℕ)) (prices : List (List Float)) (q : Quotes) (s : Side) (limit n : ℕ) (keys₀ orders₀ : List ℕ)
+    (rows : List (List ℕ)) (cs : List Float) (found : ℕ) (keys orders : List ℕ) (count i : ℕ)
+    : Type 0
+  where
+    pub within : i ≤ found
+    pub few : found ≤ s .anchors
+    pub table : AnchorsOf s bars prices found rows cs
+    pub grown : Grown n keys₀ orders₀ count keys orders
+    pub room : KeepsRoom (s .bigs) bars prices n keys₀ count keys
+    pub marks :
+        (c : Levels) → Bigs c (s .bigs) bars prices → Limits limit (reaches (anchorStop c (s .buy)))
+        → foldl push3N (marksIn q (take count keys) (take count orders)) (each (anchorNumbered c q (s .buy)) (drop i (anchorsIn c s)))
+        ≡ foldl push3N (marksIn q (take n keys₀) (take n orders₀)) (each (anchorNumbered c q (s .buy)) (anchorsIn c s))
+
+module _
+    (bars : List (List ℕ)) (prices : List (List Float)) (q : Quotes) (s : Side) (limit n : ℕ) (keys₀ orders₀ : List ℕ)
+    (rows : List (List ℕ)) (cs : List Float) (found : ℕ)
+  where
+    pub anchoring-first :
+        found ≤ s .anchors → AnchorsOf s bars prices found rows cs → Anchoring bars prices q s limit n keys₀ orders₀ rows cs found keys₀ orders₀ n 0
+    anchoring-first few table =
+        record { within = omega arith; few = few; table = table; grown = grown-none n keys₀ orders₀; room = λ c t r. r; marks = λ c t l. refl }
+
+    module _
+        (keys orders : List ℕ) (count i : ℕ) (so-far : Anchoring bars prices q s limit n keys₀ orders₀ rows cs found keys orders count i)
+      where
+        pub anchoring-all : found ≤ i → AnchorRows bars prices q s limit n keys₀ orders₀ count keys orders
+        anchoring-all h c t l =
+            rw (drop-of-length-le (anchorsIn c s) {i = i} (omega (arith, so-far .table c t .count, h))) at (so-far .marks c t l)
+
+        module _ (h : i < found) (x : Anchor) (is : x ≡ anchorIn (getD rows i []) (getD cs i nan)) where
+          -- the anchor at place i, and those behind it
+          next :
+              (c : Levels) → Bigs c (s .bigs) bars prices
+              → (a : Stroke) × AnchorAt c (s .buy) a x × (drop i (anchorsIn c s) ≡ a ∷ drop (i + 1) (anchorsIn c s))
+          next c t =
+              let table = so-far .table c t in
+              let there = lt-at (anchorsIn c s) i (omega (arith, table .count, h)) in
+              let a = there .0 in
+              let here : drop i (anchorsIn c s) ≡ getD (anchorsIn c s) i a ∷ drop (i + 1) (anchorsIn c s) =
+              rw (add-one i) (drop-cons (anchorsIn c s) i a (omega (arith, table .count, h))) in (
+                a,
+                subst (AnchorAt c (s .buy) a) (sym is) (table .are i a (there .1)),
+                here ∙ ap (λ (b : Stroke). b ∷ drop (i + 1) (anchorsIn c s)) (at-getD (anchorsIn c s) i a a (there .1)),
+              )
+
+          -- an anchor without a price C
+          pub anchoring-nowhere :
+              x .price ≡ price.Nowhere → Anchoring bars prices q s limit n keys₀ orders₀ rows cs found keys orders count (i + 1)
+          anchoring-nowhere e =
+              record {
+                within = omega arith;
+                few = so-far .few;
+                table = so-far .table;
+                grown = so-far .grown;
+                room = so-far .room;
+                marks =
+                    λ c t l.
+                    let there = next c t in
+                    let nothing = numbers-nowhere c q (s .buy) (there .0) x (there .1) e in
+                    rw (there .2, nothing) at (so-far .marks c t l);
+              }
+
+          -- one whose hits are pushed
+          pub anchoring-at :
+              (p : Float) → x .price ≡ price.At p → (count' : ℕ) (keys' orders' : List ℕ)
+              → HitRows bars prices q (record { bigs = s .bigs; from = x .from; price = p; limit = limit; bar = x .bar; buy = s .buy }) count keys orders count' keys' orders'
+              → KeepsRoom (s .bigs) bars prices count keys count' keys' → Grown count keys orders count' keys' orders'
+              → Anchoring bars prices q s limit n keys₀ orders₀ rows cs found keys' orders' count' (i + 1)
+          anchoring-at p e count' keys' orders' marks room grown =
+              record {
+                within = omega arith;
+                few = so-far .few;
+                table = so-far .table;
+                grown = grown-then (so-far .grown) grown;
+                room = λ c t r. room c t (so-far .room c t r);
+                marks =
+                    λ c t l.
+                    let there = next c t in
+                    let a = there .0 in
+                    let rest = each (anchorNumbered c q (s .buy)) (drop (i + 1) (anchorsIn c s)) in
+                    let before = marksIn q (take count keys) (take count orders) in
+                    let own = numbers-at c q (s .buy) a x (there .1) p e in
+                    ap (λ (ms : List NMark). foldl push3N ms rest) (marks c (reaches (anchorStop c (s .buy))) t l ∙ ap (foldl push3N before) (sym own))
+                    ∙ sym (foldl-append push3N before (anchorNumbered c q (s .buy) a) rest)
+                    ∙ ap (λ (as' : List Stroke). foldl push3N before (each (anchorNumbered c q (s .buy)) as')) (sym (there .2))
+                    ∙ so-far .marks c t l;
+              }
