@@ -1,5 +1,5 @@
 -- The numbering of one anchor's hits: one bar, and all of them. Assumes nothing.
-use Prim.Native.Nat.{ℕ, suc, _+_, _-_, _<_, _≤_}
+use Prim.Native.Nat.{ℕ, _+_, _<_, _≤_}
 use native.Mathlib.Omega.{arith}
 use native.Mathlib.Numerals.{add-one}
 use mathlib.Core.Path.{_≡_, refl, sym, ap, subst, _∙_}
@@ -27,11 +27,11 @@ use Rattle.mark_hits.specs.declared.End.the-variants.{At, Over}
 use Rattle.mark_hits.specs.Found.{hitBar}
 use Rattle.mark_hits.specs.Anchors.{endsIn, EndsBy, NextEnd, LaterEnd}
 use Rattle.mark_hits.proofs.Ends.{keep-yes, keep-no}
-use Rattle.numbering.specs.Rows.{keyOf, barIn, markIn, marksIn, Room, Grown}
+use Rattle.numbering.specs.Rows.{keyOf, barIn, markIn, marksIn, Grown}
 use Rattle.numbering.proofs.Gathered.{key-bar, key-side}
 use Rattle.numbering.proofs.Numbers.{grown-none, grown-then}
 use Rattle.mark_anchors.specs.declared.Aim.{Aim}
-use Rattle.mark_anchors.specs.Anchored.{Pushes, PushesRow, KeepsRow, KeepsRoom, barsIn, hitMarks, aimMarks, HitRows}
+use Rattle.mark_anchors.specs.Anchored.{PushesRow, KeepsRow, KeepsRoom, barsIn, hitMarks, aimMarks, HitRows}
 
 -- ---- lists
 

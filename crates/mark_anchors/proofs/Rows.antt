@@ -5,28 +5,25 @@ use native.Mathlib.Numerals.{add-one}
 use mathlib.Core.Path.{_≡_, refl, sym, ap, subst, _∙_}
 use mathlib.Core.Bool.{Bool, not}
 use mathlib.Core.List.{List, [], _∷_, map, foldl, foldl-append}
-use mathlib.Core.Option.{none, some}
-use lib.ListN.{take, drop, getD, getElem?, drop-of-length-le}
+use lib.ListN.{take, drop, getD, drop-of-length-le}
 use lib.Seq.{drop-cons}
 use lib.Ieee.{Float, nan}
 use Rattle.chart.specs.declared.Stroke.{Stroke}
 use Rattle.chart.specs.declared.NMark.{NMark}
-use Rattle.rules.specs.Lists.{keep, before, each, collect}
+use Rattle.rules.specs.Lists.{each, collect}
 use Rattle.rules.specs.Records.{Levels, Quotes}
 use Rattle.rules.specs.Ranges.{lastStroke}
-use Rattle.rules.specs.Marks.{beats, numbered, push3N, anchorPrice, anchorBars, anchorStop, anchorNumbered, reaches}
+use Rattle.rules.specs.Marks.{push3N, anchorBars, anchorStop, anchorNumbered, reaches}
 use Rattle.laws.proofs.Lists.{lt-at, at-getD}
 use Rattle.tables.specs.Tables.{Bigs}
 use Rattle.mark_scan.specs.Scan.{Limits}
-use Rattle.mark_hits.specs.declared.Price.{Price}
 use Rattle.mark_hits.specs.declared.Price.the-variants as price
 use Rattle.mark_hits.specs.declared.Side.{Side}
 use Rattle.mark_hits.specs.declared.Anchor.{Anchor}
 use Rattle.mark_hits.specs.Anchors.{endsIn, priceOf, anchorIn, AnchorAt, AnchorsOf}
 use Rattle.numbering.specs.Rows.{marksIn, Grown}
 use Rattle.numbering.proofs.Numbers.{grown-none, grown-then}
-use Rattle.mark_anchors.specs.declared.Aim.{Aim}
-use Rattle.mark_anchors.specs.Anchored.{KeepsRoom, barsIn, hitMarks, aimMarks, HitRows, AnchorRows}
+use Rattle.mark_anchors.specs.Anchored.{KeepsRoom, barsIn, hitMarks, HitRows, AnchorRows}
 
 -- ---- what one anchor gives
 
@@ -138,10 +135,10 @@ module _
                     let there = next c t in
                     let a = there .0 in
                     let rest = each (anchorNumbered c q (s .buy)) (drop (i + 1) (anchorsIn c s)) in
-                    let before = marksIn q (take count keys) (take count orders) in
+                    let old = marksIn q (take count keys) (take count orders) in
                     let own = numbers-at c q (s .buy) a x (there .1) p e in
-                    ap (λ (ms : List NMark). foldl push3N ms rest) (marks c (reaches (anchorStop c (s .buy))) t l ∙ ap (foldl push3N before) (sym own))
-                    ∙ sym (foldl-append push3N before (anchorNumbered c q (s .buy) a) rest)
-                    ∙ ap (λ (as' : List Stroke). foldl push3N before (each (anchorNumbered c q (s .buy)) as')) (sym (there .2))
+                    ap (λ (ms : List NMark). foldl push3N ms rest) (marks c (reaches (anchorStop c (s .buy))) t l ∙ ap (foldl push3N old) (sym own))
+                    ∙ sym (foldl-append push3N old (anchorNumbered c q (s .buy) a) rest)
+                    ∙ ap (λ (as' : List Stroke). foldl push3N old (each (anchorNumbered c q (s .buy)) as')) (sym (there .2))
                     ∙ so-far .marks c t l;
               }

@@ -32,7 +32,7 @@ fn limit_at(bars: &[[u16; 6]; 256], prices: &[[f64; 3]; 256], m: usize, last: u1
     if m <= i {
         return 65536;
     }
-    let EndPoint::At(bar, price) = tables::point_at(bars, prices, i) else {
+    let EndPoint::At(bar, _) = tables::point_at(bars, prices, i) else {
         return 65536;
     };
     bar as u32
@@ -120,7 +120,7 @@ fn hit_rows(
     let mut k = aim.from;
     while k < m {
         let end = mark_hits::next_end(bars, prices, m, !aim.buy, aim.bar, k);
-        let End::At(next, bar, price) = end else {
+        let End::At(next, bar, _) = end else {
             return count;
         };
         if mark_scan::reached(aim.limit, bar) {

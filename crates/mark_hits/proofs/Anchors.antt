@@ -7,7 +7,7 @@ use mathlib.Core.Bool.{Bool, true, false, Bool·beq, true≢false}
 use mathlib.Core.List.{List, [], _∷_, _++_, append-nil}
 use mathlib.Core.Option.{Option, none, some}
 use mathlib.Core.Logic.{_⊎_, inl, inr}
-use lib.ListN.{length, take, drop, getD, getElem?, set, length-set}
+use lib.ListN.{length, take, drop, getD, getElem?, set}
 use lib.Seq.{take-all, take-suc, getD-set-same, getD-set-other}
 use lib.Dec.{ltb}
 use lib.Ieee.{Float, nan}
@@ -30,8 +30,8 @@ use Rattle.mark_hits.specs.declared.End.{End}
 use Rattle.mark_hits.specs.declared.End.the-variants.{At, Over}
 use Rattle.mark_hits.specs.declared.Price.the-variants as price
 use Rattle.mark_hits.specs.declared.Side.{Side}
-use Rattle.mark_hits.specs.Anchors.{endsIn, EndsBy, NoneBefore, FirstBehind, Anchoring, priceOf, anchorIn, AnchorAt, Anchors, PutsAnchor, AnchorsOf, NextEnd}
-use Rattle.mark_hits.proofs.Ends.{keep-yes, keep-no, collect-some, collect-none, ends-over, ends-nowhere, ends-soon, no-point, point-stroke}
+use Rattle.mark_hits.specs.Anchors.{endsIn, EndsBy, NoneBefore, FirstBehind, Anchoring, anchorIn, AnchorAt, Anchors, PutsAnchor, AnchorsOf, NextEnd}
+use Rattle.mark_hits.proofs.Ends.{keep-yes, keep-no, collect-some, collect-none, ends-nowhere, ends-soon, no-point, point-stroke}
 
 -- ---- a place before which no big ends behind a bar
 

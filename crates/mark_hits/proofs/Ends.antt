@@ -12,7 +12,6 @@ use lib.Dec.{ltb}
 use lib.Ieee.{Float}
 use Rattle.chart.specs.declared.Stroke.{Stroke}
 use Rattle.chart.specs.declared.Triple.{Triple}
-use Rattle.chart.specs.declared.EndPoint.{EndPoint}
 use Rattle.chart.specs.declared.EndPoint.the-variants.{At, Nowhere}
 use Rattle.chart.specs.Table.{pointOf}
 use Rattle.rules.specs.Lists.{keep, collect}

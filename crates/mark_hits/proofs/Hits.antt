@@ -1,17 +1,14 @@
 -- Hits: a lent price that is beyond the price p, at a bar inside the slice. Assumes nothing.
-use Prim.Native.Nat.{ℕ, zero, suc, _<_}
-use native.Mathlib.Omega.{arith}
+use Prim.Native.Nat.{ℕ}
 use mathlib.Core.Path.{_≡_, refl, sym, ap, _∙_}
 use mathlib.Core.Bool.{Bool, true, false, cond, not, true≢false, false≢true}
 use mathlib.Core.List.{List, [], _∷_}
-use mathlib.Core.Option.{Option, none, some}
-use lib.ListN.{length, getElem?}
+use mathlib.Core.Option.{Option, some}
 use lib.Ieee.{Float, nan, lt}
 use Rattle.rules.specs.Lists.{find, isNone}
 use Rattle.rules.specs.Records.{Quotes}
 use Rattle.rules.specs.Marks.{side, quote, beats, priceAt}
-use Rattle.laws.proofs.Tests.{none-some}
-use Rattle.laws.proofs.Lists.{at-getD}
+use Rattle.laws.proofs.Lists.{at-lt, at-getD}
 use Rattle.mark_hits.specs.declared.Quote.{Quote}
 use Rattle.mark_hits.specs.declared.Quote.the-variants as quoted
 use Rattle.mark_hits.specs.Found.{quoteOf}
@@ -25,12 +22,6 @@ module _ {A : Type 0} (p : A → Bool) (x : A) (xs : List A) where
 
   pub find-no : p x ≡ false → find p (x ∷ xs) ≡ find p xs
   find-no e = rw (find, e)
-
--- a place where a list has an element is inside it
-inside : {A : Type 0} (l : List A) (i : ℕ) (x : A) → getElem? l i ≡ some x → i < length l
-inside [] i x e = absurd (none-some e)
-inside (y ∷ l) zero x e = omega arith
-inside (y ∷ l) (suc i) x e = omega (arith, inside l i x e)
 
 module _ (q : Quotes) (buy : Bool) (p : Float) (bar : ℕ) (o : Quote) (there : quoteOf o ≡ quote q buy bar) where
   pub no-quote : o ≡ quoted.Outside → LentPrice q buy Nothing × (find (beats q buy p) (bar ∷ []) ≡ hitBar Nothing)
@@ -50,7 +41,7 @@ module _ (q : Quotes) (buy : Bool) (p : Float) (bar : ℕ) (o : Quote) (there : 
     pub quote-hit : t ≡ true → LentPrice q buy (At bar x) × (find (beats q buy p) (bar ∷ []) ≡ hitBar (At bar x))
     unfolding quote priceAt
     quote-hit h = (
-      (sym (at-getD (side q buy) bar nan x quote-there), inside (side q buy) bar x quote-there),
+      (sym (at-getD (side q buy) bar nan x quote-there), at-lt (side q buy) bar x quote-there),
       find-yes (beats q buy p) bar [] (tested ∙ h),
     )
 

@@ -91,7 +91,7 @@ pub fn hit_at(highs: &[f64], lows: &[f64], buy: bool, p: f64, bar: usize) -> Hit
 pub fn is_hit(hit: Hit) -> bool
     ensures { λ r. ⌜ r ≡ not (isNone (hitBar hit)) ⌝ }
 {
-    let Hit::At(bar, x) = hit else {
+    let Hit::At(_, _) = hit else {
         return false;
     };
     true
@@ -170,7 +170,7 @@ fn first_behind(
     while k < m {
         let i = k;
         k += 1;
-        let EndPoint::At(bar, price) = tables::point_at(bars, prices, i) else {
+        let EndPoint::At(bar, _) = tables::point_at(bars, prices, i) else {
             continue;
         };
         if is_behind(after, bar) {
@@ -269,7 +269,7 @@ fn put_anchor(
     ensures { λ _. ⌜ PutsAnchor n bar from end (now (anchors .entry)) (now (cs .entry)) (now (anchors .exit)) (now (cs .exit)) ⌝ }
 {
     let place = from as u16;
-    let End::At(next, at, price) = end else {
+    let End::At(_, _, price) = end else {
         anchors[n] = [bar, place, 0];
         cs[n] = 0.0;
         return;
@@ -297,7 +297,7 @@ pub fn anchors_of(
     while i < side.anchors {
         let k = i;
         i += 1;
-        let EndPoint::At(bar, price) = tables::point_at(bars, prices, k) else {
+        let EndPoint::At(bar, _) = tables::point_at(bars, prices, k) else {
             continue;
         };
         from = first_behind(bars, prices, side.bigs, last, from, bar);

@@ -2,7 +2,6 @@
 -- Assumes nothing.
 use Prim.Native.Nat.{_-_}
 use native.Mathlib.Omega.{arith}
-use mathlib.Core.Path.{refl, sym, ap, _∙_}
 use borrow.Author.Needs.{needs}
 use Rattle.mark_anchors.proofs.Rows.{Anchoring, anchoring-first, anchoring-all, anchoring-nowhere, anchoring-at}
 use Rattle.mark_anchors.proofs.anchor_rows.Statement.{statement}

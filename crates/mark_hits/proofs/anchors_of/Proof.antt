@@ -1,7 +1,7 @@
 -- `mark_hits::anchors_of` meets its contract. The invariant: the anchors among the first i bigs have rows. Assumes nothing.
 use Prim.Native.Nat.{_-_, _≤_}
 use native.Mathlib.Omega.{arith}
-use mathlib.Core.Path.{_≡_, sym, _∙_}
+use mathlib.Core.Path.{sym, _∙_}
 use borrow.Author.Needs.{needs}
 use Rattle.tables.specs.Rows.{Wide}
 use Rattle.mark_hits.proofs.Anchors.{Gathered, gathered-none, gathered-missing, gathered-more, gathered-all}

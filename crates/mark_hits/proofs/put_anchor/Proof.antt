@@ -14,8 +14,8 @@ enum-known-end c = search needs
 enum-told : tie.Need-enum-told
 enum-told c = search needs
 
-mul-t12 : tie.Need-mul-t12
-mul-t12 c = search needs
+mul-t10 : tie.Need-mul-t10
+mul-t10 c = search needs
 
 element-set-from-anchors : tie.Need-element-set-from-anchors
 element-set-from-anchors c = search needs
@@ -33,8 +33,8 @@ returns c =
       λ l buy an a at behind ends so-far. puts-nowhere _ _ _ (start .args .end) _ _ (start .pre .1) (start .pre .2) l buy an a at behind ends so-far _ (c .enum-told .given .1),
     )
 
-mul-t18 : tie.Need-mul-t18
-mul-t18 c = search needs
+mul-t16 : tie.Need-mul-t16
+mul-t16 c = search needs
 
 element-set-from-anchors-2 : tie.Need-element-set-from-anchors-2
 element-set-from-anchors-2 c = search needs
@@ -59,12 +59,12 @@ put-anchor-spec =
     cast-place
     enum-known-end
     enum-told
-    mul-t12
+    mul-t10
     element-set-from-anchors
     mul-cs
     element-write-cs
     returns
-    mul-t18
+    mul-t16
     element-set-from-anchors-2
     mul-cs-2
     element-write-cs-2
