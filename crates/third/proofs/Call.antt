@@ -1,36 +1,46 @@
 -- The call on a chart: refused with 21, with 8 or 1, with 11, or given the marks of its zones and anchors. Assumes nothing.
 use Prim.Native.Nat.{ℕ}
 use mathlib.Core.Path.{_≡_, refl}
-use mathlib.Core.Bool.{true, false}
+use mathlib.Core.Bool.{Bool, true, false, cond}
 use mathlib.Core.List.{List}
+use lib.Dec.{eqb}
 use Rattle.chart.specs.declared.ThirdMark.{ThirdMark}
 use Rattle.chart.specs.declared.Chart.{Chart}
 use Rattle.rules.specs.Answer.{refused, given, answered}
 use Rattle.rules.specs.Records.{Levels, levelsOf, Quotes}
 use Rattle.rules.specs.Marks.{thirdMarks}
-use Rattle.rules.specs.Refusals.{badChart, zonesRefusal, thirdRefusal}
+use Rattle.rules.specs.Refusals.{refuse, badSlices, badQuotes, zonesRefusal, thirdRefusal}
 use Rattle.rules.specs.Calls.{onChart, thirdCall}
-use Rattle.scan.specs.Scan.{quotesRefusal}
-use Rattle.scan.proofs.Quotes.{call-bad, call-quotes, call-rest, call-given}
+use Rattle.mark_hits.specs.Found.{quotesRefusal}
+use Rattle.zones.specs.Filled.{callNumber}
+use Rattle.zones.proofs.Call.{call-refused, call-given}
 
-module _ (c : Chart) (q : Quotes) where
+-- 8 or 1, and else what follows
+quotes-then : (q : Quotes) (k : ℕ) → quotesRefusal q k ≡ cond (eqb (quotesRefusal q 0) 0) k (quotesRefusal q 0)
+unfolding refuse
+quotes-then q k = go (badSlices q) (badQuotes q)
+  where
+    go : (a b : Bool) → refuse a 8 (refuse b 1 k) ≡ cond (eqb (refuse a 8 (refuse b 1 0)) 0) k (refuse a 8 (refuse b 1 0))
+    go true b = refl
+    go false true = refl
+    go false false = refl
+
+module _ (c : Chart) (q : Quotes) (own : ℕ) (is : own ≡ quotesRefusal q 0) where
   abbrev marks : Levels → List ThirdMark
   marks l = thirdMarks l q
 
-  is : thirdCall c q ≡ onChart c (λ (l : Levels). answered (quotesRefusal q (zonesRefusal l)) (marks l))
+  abbrev rest : Levels → ℕ
+  rest l = quotesRefusal q (zonesRefusal l)
+
+  third-is : thirdCall c q ≡ onChart c (λ (l : Levels). answered (rest l) (marks l))
   unfolding thirdCall thirdRefusal
-  is = refl
+  third-is = refl
 
-  pub third-bad : badChart c ≡ true → refused 21 ≡ thirdCall c q
-  third-bad = call-bad c q zonesRefusal marks (thirdCall c q) is
+  first : rest (levelsOf c) ≡ cond (eqb own 0) (zonesRefusal (levelsOf c)) own
+  first = rw is (quotes-then q (zonesRefusal (levelsOf c)))
 
-  module _ (good : badChart c ≡ false) where
-    pub third-quotes : (k : ℕ) → k ≡ quotesRefusal q 0 → (k ≡ 0 → ⊥) → refused k ≡ thirdCall c q
-    third-quotes = call-quotes c q zonesRefusal marks (thirdCall c q) is good
+  pub third-refused : (n : ℕ) → n ≡ callNumber c own → (n ≡ 0 → ⊥) → refused n ≡ thirdCall c q
+  third-refused = call-refused c own rest marks (thirdCall c q) third-is first
 
-    module _ (f : 0 ≡ quotesRefusal q 0) where
-      pub third-many : (k : ℕ) → zonesRefusal (levelsOf c) ≡ k → (k ≡ 0 → ⊥) → refused k ≡ thirdCall c q
-      third-many = call-rest c q zonesRefusal marks (thirdCall c q) is good f
-
-      pub third-given : zonesRefusal (levelsOf c) ≡ 0 → given (thirdMarks (levelsOf c) q) ≡ thirdCall c q
-      third-given = call-given c q zonesRefusal marks (thirdCall c q) is good f
+  pub third-given : 0 ≡ callNumber c own → given (thirdMarks (levelsOf c) q) ≡ thirdCall c q
+  third-given = call-given c own rest marks (thirdCall c q) third-is first

@@ -150,7 +150,7 @@ pub fn bigseg_3n_marks_all_zhongshu(chart: Chart, highs: &[f64], lows: &[f64]) -
     mark_scan::scans_of(&bars, &prices, &sups, &zb, counts, &mut scans);
     let mut keys = [0u32; 513];
     let mut marks = [[0.0; 2]; 512];
-    let found = mark_thirds::thirds(
+    let found = mark_thirds::thirds_of(
         &bars,
         &prices,
         &sups,

@@ -1,4 +1,0 @@
-pub mod ZoneMarks
-pub mod Anchors
-pub mod Repeats
-pub mod Whole

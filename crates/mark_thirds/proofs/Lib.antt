@@ -1,0 +1,4 @@
+pub mod Marked
+pub mod ZoneMarks
+pub mod Anchors
+pub mod Whole

@@ -1,0 +1,165 @@
+-- The marks that keys and rows stand for: repeats of bar and side, one mark more, and the marks of a list of grounds. Assumes nothing.
+use Prim.Native.Nat.{ℕ, zero, suc, _+_, _*_, _/_, _%_, _<_, _≤_}
+use native.Mathlib.Omega.{arith}
+use native.Mathlib.Numerals.{add-one}
+use mathlib.Core.Path.{_≡_, refl, sym, ap, subst, _∙_}
+use mathlib.Core.Bool.{Bool, true, false, cond, _&&_, _||_, or-false, Bool·beq}
+use mathlib.Core.List.{List, [], _∷_, _++_, map, foldl, append-nil}
+use mathlib.Core.Logic.{_⊎_, inl, inr}
+use mathlib.Core.Option.{some}
+use lib.ListN.{length, getD, getElem?, set, take, drop}
+use lib.Seq.{getD-set-same, getD-set-other, take-suc, take-all}
+use lib.Ieee.{Float}
+use lib.Dec.{eqb, ltb}
+use borrow.Author.Tests.{lt-ltb, eqb-true, eqb-false}
+use Rattle.chart.specs.declared.ThirdMark.{ThirdMark}
+use Rattle.rules.specs.Lists.{any, each}
+use Rattle.rules.specs.Marks.{addThird}
+use Rattle.laws.proofs.Tests.{none-some, length-snoc}
+use Rattle.laws.proofs.Lists.{at-lt, each-append}
+use Rattle.laws.proofs.Arrays.{left-more, left-none}
+use Rattle.numbering.specs.Rows.{keyOf, barIn, sideIn, rowKey}
+use Rattle.numbering.proofs.Gathered.{key-bar, key-side, key-same}
+use Rattle.mark_hits.specs.declared.Hit.{Hit}
+use Rattle.mark_hits.specs.declared.Hit.the-variants.{At, Nothing}
+use Rattle.mark_thirds.specs.Third.{thirdIn, Marked, OnBar, hitMarks}
+
+-- ---- whether one of the first n passes: `met` is whether one before place i does, and those from there on are left to look at
+
+or-assoc : (a b c : Bool) → ((a || b) || c) ≡ (a || (b || c))
+or-assoc true b c = refl
+or-assoc false b c = refl
+
+module _
+    {A : Type 0} (p : A → Bool) (n i : ℕ) (xs : List A) (met all : Bool) (long : n ≤ length xs) (left : (met || any p (drop i (take n xs))) ≡ all)
+  where
+    pub any-none : n ≤ i → met ≡ all
+    any-none h = sym (or-false met) ∙ rw (left-none n i xs h long) at left
+
+    pub any-more : (d : A) → i < n → (met || p (getD xs i d) || any p (drop (i + 1) (take n xs))) ≡ all
+    any-more d h = or-assoc met (p (getD xs i d)) (any p (drop (i + 1) (take n xs))) ∙ rw (left-more n i xs d h long) at left
+
+-- ---- keys
+
+-- the key of a key's mark
+row-key : (zone : Bool) (key : ℕ) (row : List Float) → rowKey (thirdIn zone key row) ≡ key
+row-key zone key row = go (eqb (key % 2) 1) refl
+  where
+    go : (t : Bool) → eqb (key % 2) 1 ≡ t → key / 2 * 2 + cond t 1 0 ≡ key
+    go true e = omega (arith, eqb-true (key % 2) 1 e)
+    go false e = even (eqb-false (key % 2) 1 e)
+      where
+        even : (key % 2 ≡ 1 → ⊥) → key / 2 * 2 + 0 ≡ key
+        even n = omega arith
+
+-- a column that has what f gives of each of a list's elements
+column-is :
+    {A : Type 0} (f : A → ℕ) (l : List A) (keys : List ℕ) → ((i : ℕ) (m : A) → getElem? l i ≡ some m → f m ≡ getD keys i 0)
+    → length l ≤ length keys → take (length l) keys ≡ map f l
+column-is f [] keys h k = refl
+column-is f (m ∷ l) [] h k = absurd (omega arith)
+column-is f (m ∷ l) (x ∷ keys) h k = rw (column-is f l keys (λ i. h (suc i)) (omega arith), h zero m refl)
+
+-- a mark with the same bar and side is there where the key is
+any-keys :
+    (ms : List ThirdMark) (key : ℕ)
+    → any (λ (k : ℕ). eqb k key) (map rowKey ms)
+    ≡ any (λ (x : ThirdMark). eqb (x .«bar_index») (barIn key) && Bool·beq (x .«is_buy») (sideIn key)) ms
+any-keys [] key = refl
+any-keys (x ∷ ms) key =
+    rw (← key-same (rowKey x) key, key-bar (x .«bar_index») (x .«is_buy»), key-side (x .«bar_index») (x .«is_buy»), any-keys ms key)
+
+-- ---- one mark more
+
+at-snoc : {A : Type 0} (xs : List A) (y : A) (i : ℕ) (x : A) → getElem? (xs ++ y ∷ []) i ≡ some x → (getElem? xs i ≡ some x) ⊎ ((i ≡ length xs) × (x ≡ y))
+at-snoc [] y zero x e = inr (refl, cc)
+at-snoc [] y (suc i) x e = absurd (none-some e)
+at-snoc (z ∷ xs) y zero x e = inl e
+at-snoc (z ∷ xs) y (suc i) x e = go (at-snoc xs y i x e)
+  where
+    go : (getElem? xs i ≡ some x) ⊎ ((i ≡ length xs) × (x ≡ y)) → (getElem? xs i ≡ some x) ⊎ ((suc i ≡ suc (length xs)) × (x ≡ y))
+    go (inl k) = inl k
+    go (inr k) = inr (ap suc (k .0), k .1)
+
+pub marked-none : (zoned : ℕ) (keys : List ℕ) (marks : List (List Float)) → Marked zoned 0 keys marks []
+marked-none zoned keys marks = record { many = refl; are = λ i m e. absurd (none-some e) }
+
+module _ (zoned count : ℕ) (keys : List ℕ) (marks : List (List Float)) (l : List ThirdMark) (marked : Marked zoned count keys marks l) where
+  -- the keys are the marks' keys
+  pub marked-keys : count ≤ length keys → take count keys ≡ map rowKey l
+  marked-keys long =
+      rw (← marked .many)
+      (column-is rowKey l keys (λ i m e. ap rowKey (marked .are i m e) ∙ row-key (ltb i zoned) (getD keys i 0) (getD marks i [])) (omega (arith, marked .many)))
+
+  module _
+      (key : ℕ) (x p : Float) (wide : count < length keys) (r : Bool) (seen : r ≡ any (λ (k : ℕ). eqb k key) (take count keys))
+    where
+      abbrev m : ThirdMark
+      m = thirdIn (ltb count zoned) key (x ∷ p ∷ [])
+
+      among : any (λ (y : ThirdMark). eqb (y .«bar_index») (m .«bar_index») && Bool·beq (y .«is_buy») (m .«is_buy»)) l ≡ r
+      among = sym (any-keys l key) ∙ sym (rw (marked-keys (omega arith)) at seen)
+
+      pub put-repeat : r ≡ true → Marked zoned count keys marks (addThird l m)
+      unfolding addThird
+      put-repeat e = rw (addThird, among, e) marked
+
+      pub put-new :
+          count < length marks → r ≡ false
+          → Marked zoned (count + 1) (set keys count key) (set marks count (x ∷ p ∷ [])) (addThird l m)
+      unfolding addThird
+      put-new room e = rw (addThird, among, e) (record { many = omega (arith, length-snoc l m, marked .many); are = λ i y f. go i y (at-snoc l m i y f) })
+        where
+          go :
+              (i : ℕ) (y : ThirdMark) → (getElem? l i ≡ some y) ⊎ ((i ≡ length l) × (y ≡ m))
+              → y ≡ thirdIn (ltb i zoned) (getD (set keys count key) i 0) (getD (set marks count (x ∷ p ∷ [])) i [])
+          go i y (inl f) =
+              let other : i ≡ count → ⊥ = λ w. omega (arith, w, at-lt l i y f, marked .many) in
+              rw (getD-set-other keys count i key 0 other, getD-set-other marks count i (x ∷ p ∷ []) [] other) (marked .are i y f)
+          go i y (inr f) =
+              let same : i ≡ count = f .0 ∙ marked .many in
+              rw (same, getD-set-same keys count key 0 wide, getD-set-same marks count (x ∷ p ∷ []) [] room) (f .1)
+
+  -- all of them are of zones
+  pub marked-zoned : count ≤ zoned → Marked count count keys marks l
+  marked-zoned h = record { many = marked .many; are = λ i m e. go i m e (at-lt l i m e) }
+    where
+      go : (i : ℕ) (m : ThirdMark) → getElem? l i ≡ some m → i < length l → m ≡ thirdIn (ltb i count) (getD keys i 0) (getD marks i [])
+      go i m e k =
+          let same : ltb i count ≡ ltb i zoned = lt-ltb i count (omega (arith, marked .many)) ∙ sym (lt-ltb i zoned (omega (arith, marked .many))) in
+          rw same (marked .are i m e)
+
+-- ---- the mark of a hit
+
+module _ (zoned count : ℕ) (keys : List ℕ) (marks : List (List Float)) (l : List ThirdMark) (zone buy : Bool) (p : Float) (hit : Hit) where
+  pub hit-none : hit ≡ Nothing → Marked zoned count keys marks l → Marked zoned count keys marks (foldl addThird l (hitMarks zone buy p hit))
+  hit-none e w = rw e w
+
+  -- its key is made of its bar and its side
+  pub hit-put :
+      (key bar : ℕ) (x : Float) → hit ≡ At bar x → key ≡ keyOf bar buy → Marked zoned count keys marks (addThird l (thirdIn zone key (x ∷ p ∷ [])))
+      → Marked zoned count keys marks (foldl addThird l (hitMarks zone buy p hit))
+  hit-put key bar x e f w = rw e (rw (f, key-bar bar buy, key-side bar buy) at w)
+
+pub on-bar : (hit : Hit) (bar : ℕ) (x : Float) → OnBar hit → hit ≡ At bar x → bar < 0x1_0000
+on-bar hit bar x w e = subst OnBar e w
+
+-- ---- the marks that come of a list, one after the other
+
+pub fold-append : (l a b : List ThirdMark) → foldl addThird l (a ++ b) ≡ foldl addThird (foldl addThird l a) b
+fold-append l [] b = refl
+fold-append l (m ∷ a) b = fold-append (addThird l m) a b
+
+module _ {A : Type 0} (f : A → List ThirdMark) (zoned count : ℕ) (keys : List ℕ) (marks : List (List Float)) (l : List ThirdMark) (xs : List A) (i : ℕ) where
+  -- element i has come to these marks
+  pub marked-next :
+      (d : A) (ms : List ThirdMark) → i < length xs → f (getD xs i d) ≡ ms
+      → Marked zoned count keys marks (foldl addThird (foldl addThird l (each f (take i xs))) ms)
+      → Marked zoned count keys marks (foldl addThird l (each f (take (i + 1) xs)))
+  marked-next d ms h e w =
+      rw (add-one i, take-suc xs i d h, each-append f (take i xs) (getD xs i d ∷ []), append-nil, e, fold-append l (each f (take i xs)) ms) w
+
+  pub marked-all :
+      length xs ≤ i → Marked zoned count keys marks (foldl addThird l (each f (take i xs)))
+      → Marked zoned count keys marks (foldl addThird l (each f xs))
+  marked-all h w = rw (take-all i xs h) at w

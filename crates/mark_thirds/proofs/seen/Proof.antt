@@ -1,0 +1,69 @@
+-- `mark_thirds::seen` meets its contract. The invariant: whether the key was met or is among those that are left is whether it is among all. Assumes nothing.
+use Prim.Native.Nat.{ℕ, _-_, _≤_}
+use native.Mathlib.Omega.{arith}
+use mathlib.Core.Path.{_≡_, refl}
+use mathlib.Core.Bool.{_||_}
+use lib.ListN.{take, drop}
+use lib.Dec.{eqb}
+use borrow.Author.Needs.{needs}
+use Rattle.rules.specs.Lists.{any}
+use Rattle.mark_thirds.proofs.Marked.{any-more, any-none}
+use Rattle.mark_thirds.proofs.seen.Statement.{statement}
+use Rattle.mark_thirds.proofs.seen.Tie as tie
+
+abbrev Inv-loop : tie.InvT-loop
+Inv-loop keys n key met₀ i₀ met i =
+    (i ≤ n) × ((met || any (λ (k : ℕ). eqb k key) (drop i (take n keys))) ≡ any (λ (k : ℕ). eqb k key) (take n keys))
+
+abbrev μ-loop : tie.MeasureT-loop
+μ-loop keys n key met₀ i₀ met i = n - i
+
+loop-holds : tie.Need-loop-holds Inv-loop μ-loop
+loop-holds c = (omega arith, refl)
+
+-- src/lib.rt:28:22
+mul-met : tie.Need-mul-met Inv-loop μ-loop
+mul-met c = search needs
+
+-- src/lib.rt:28:22
+shared-slice-read-met : tie.Need-shared-slice-read-met Inv-loop μ-loop
+shared-slice-read-met c = search needs
+
+-- src/lib.rt:29:9
+add-i : tie.Need-add-i Inv-loop μ-loop
+add-i c = search needs
+
+-- src/lib.rt:27:5
+loop-less : tie.Need-loop-less Inv-loop μ-loop
+loop-less c = search needs
+
+-- src/lib.rt:27:5
+loop-again : tie.Need-loop-again Inv-loop μ-loop
+loop-again c =
+    let in-loop = c .before in
+    let head = in-loop .before in
+    let args = head .before .args in (
+      omega arith,
+      any-more (λ (k : ℕ). eqb k (args .key)) _ (head .loop .i) (args .keys .now) (head .loop .met) _ (head .before .pre) (head .loop .inv .1) 0 (in-loop .loop-test .taken),
+    )
+
+-- src/lib.rt:21:1
+returns : tie.Need-returns Inv-loop μ-loop
+returns c =
+    let head = c .before in
+    let args = head .before .args in
+    any-none (λ (k : ℕ). eqb k (args .key)) _ (head .loop .i) (args .keys .now) (head .loop .met) _ (head .before .pre) (head .loop .inv .1) (c .loop-test .left)
+
+pub seen-spec : {M : Type 1} → statement M
+seen-spec =
+    tie.close
+    (tie.spec
+    Inv-loop
+    μ-loop
+    loop-holds
+    mul-met
+    shared-slice-read-met
+    add-i
+    loop-less
+    loop-again
+    returns)

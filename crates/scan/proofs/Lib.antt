@@ -1,5 +1,0 @@
-pub mod Columns
-pub mod Steps
-pub mod Zones
-pub mod Quotes
-pub mod Nearest

@@ -1,4 +1,0 @@
-pub mod Meetings
-pub mod Blocks
-pub mod Gatherings
-pub mod Rowings
