@@ -46,20 +46,20 @@ pub record Marked (zoned count : ℕ) (keys : List ℕ) (marks : List (List Floa
   pub are : (i : ℕ) (m : ThirdMark) → getElem? l i ≡ some m → m ≡ thirdIn (ltb i zoned) (getD keys i 0) (getD marks i [])
 
 -- there are places for 512 keys and rows
-abbrev pub Wide : List ℕ → List (List Float) → Type 0
-Wide keys marks = (512 ≤ length keys) × (length marks ≡ 512)
+abbrev pub Places : List ℕ → List (List Float) → Type 0
+Places keys marks = (512 ≤ length keys) × (length marks ≡ 512)
 
 -- the places stay as many
-abbrev pub Kept : List ℕ → List ℕ → List (List Float) → Type 0
-Kept keys keys' marks' = (length keys' ≡ length keys) × (length marks' ≡ 512)
+abbrev pub SamePlaces : List ℕ → List ℕ → List (List Float) → Type 0
+SamePlaces keys keys' marks' = (length keys' ≡ length keys) × (length marks' ≡ 512)
 
 -- at most one mark has gone behind the first `count`
 abbrev pub OneMore : ℕ → ℕ → Type 0
 OneMore count r = (count ≤ r) × (r ≤ count + 1)
 
 -- where the first `count` are some marks, the first r are those and this mark
-abbrev pub Puts : ℕ → ℕ → Float → Float → List ℕ → List (List Float) → ℕ → List ℕ → List (List Float) → Type 0
-Puts count key x p keys marks r keys' marks' =
+abbrev pub PutsMark : ℕ → ℕ → Float → Float → List ℕ → List (List Float) → ℕ → List ℕ → List (List Float) → Type 0
+PutsMark count key x p keys marks r keys' marks' =
     (zoned : ℕ) (l : List ThirdMark) → Marked zoned count keys marks l
     → Marked zoned r keys' marks' (addThird l (thirdIn (ltb count zoned) key (x ∷ p ∷ [])))
 

@@ -17,7 +17,7 @@ ghost use Rattle.rules.specs.Records.{isUp};
 ghost use Rattle.tables.specs.Tables.{Fits};
 ghost use Rattle.mark_hits.specs.Found.{LentPrice};
 ghost use Rattle.mark_thirds.specs.Third.{
-    Wide, Kept, OneMore, Puts, OnBar, PutsHit, ZoneHit, ZoneMarks, AnchorHit, AnchorMarks, GathersThirds
+    Places, SamePlaces, OneMore, PutsMark, OnBar, PutsHit, ZoneHit, ZoneMarks, AnchorHit, AnchorMarks, GathersThirds
 };
 
 // ---- marks
@@ -46,9 +46,9 @@ fn put(
     x: f64,
     p: f64,
 ) -> usize
-    requires { ⌜ (count < 512) × Wide (now keys) (now marks) ⌝ }
-    ensures { λ r. ⌜ OneMore count r × Kept (now (keys .entry)) (now (keys .exit)) (now (marks .exit)) ⌝ }
-    ensures { λ r. ⌜ Puts count key x p (now (keys .entry)) (now (marks .entry)) r (now (keys .exit)) (now (marks .exit)) ⌝ }
+    requires { ⌜ (count < 512) × Places (now keys) (now marks) ⌝ }
+    ensures { λ r. ⌜ OneMore count r × SamePlaces (now (keys .entry)) (now (keys .exit)) (now (marks .exit)) ⌝ }
+    ensures { λ r. ⌜ PutsMark count key x p (now (keys .entry)) (now (marks .entry)) r (now (keys .exit)) (now (marks .exit)) ⌝ }
 {
     if seen(keys, count, key) {
         return count;
@@ -58,7 +58,7 @@ fn put(
     count + 1
 }
 
-// The mark of a hit, over the ground's price p.
+// As put, for the mark of a hit of a side, over the ground's price p; where there is no hit, the marks stay.
 fn put_hit(
     keys: &mut [u32],
     marks: &mut [[f64; 2]; 512],
@@ -67,8 +67,8 @@ fn put_hit(
     buy: bool,
     p: f64,
 ) -> usize
-    requires { ⌜ (count < 512) × Wide (now keys) (now marks) × OnBar hit ⌝ }
-    ensures { λ r. ⌜ OneMore count r × Kept (now (keys .entry)) (now (keys .exit)) (now (marks .exit)) ⌝ }
+    requires { ⌜ (count < 512) × Places (now keys) (now marks) × OnBar hit ⌝ }
+    ensures { λ r. ⌜ OneMore count r × SamePlaces (now (keys .entry)) (now (keys .exit)) (now (marks .exit)) ⌝ }
     ensures { λ r. ⌜ PutsHit count hit buy p (now (keys .entry)) (now (marks .entry)) r (now (keys .exit)) (now (marks .exit)) ⌝ }
 {
     let Hit::At(bar, x) = hit else {
@@ -92,11 +92,7 @@ fn zone_hit(
 ) -> Hit
     requires { ⌜ m ≤ 256 ⌝ }
     ensures { λ r. ⌜ LentPrice (record { highs = now (highs .entry); lows = now (lows .entry) }) (isUp (scan .direction)) r ⌝ }
-    ensures {
-        λ r. ⌜
-            ZoneHit m (now (bars .entry)) (now (prices .entry)) scan p (record { highs = now (highs .entry); lows = now (lows .entry) }) r
-        ⌝
-    }
+    ensures { λ r. ⌜ ZoneHit m (now (bars .entry)) (now (prices .entry)) scan p (record { highs = now (highs .entry); lows = now (lows .entry) }) r ⌝ }
 {
     let buy = scan.direction == 1;
     let mut at = scan.from as usize;
@@ -136,14 +132,10 @@ fn zone_marks(
     keys: &mut [u32],
     marks: &mut [[f64; 2]; 512],
 ) -> usize
-    requires { ⌜ Fits counts × (length (now highs) ≤ 0x1_0000) × (length (now lows) ≤ 0x1_0000) × Wide (now keys) (now marks) ⌝ }
-    ensures { λ r. ⌜ (r ≤ counts .zones) × Kept (now (keys .entry)) (now (keys .exit)) (now (marks .exit)) ⌝ }
-    ensures {
-        λ r. ⌜
-            ZoneMarks counts (now (bars .entry)) (now (prices .entry)) (now (scans .entry)) (now (zp .entry))
-            (record { highs = now (highs .entry); lows = now (lows .entry) }) r (now (keys .exit)) (now (marks .exit))
-        ⌝
-    }
+    requires { ⌜ Fits counts × (length (now highs) ≤ 0x1_0000) × (length (now lows) ≤ 0x1_0000) × Places (now keys) (now marks) ⌝ }
+    ensures { λ r. ⌜ (r ≤ counts .zones) × SamePlaces (now (keys .entry)) (now (keys .exit)) (now (marks .exit)) ⌝ }
+    ensures { λ r. ⌜ ZoneMarks counts (now (bars .entry)) (now (prices .entry)) (now (scans .entry)) (now (zp .entry))
+        (record { highs = now (highs .entry); lows = now (lows .entry) }) r (now (keys .exit)) (now (marks .exit)) ⌝ }
 {
     let mut count = 0usize;
     let mut i = 0usize;
@@ -172,12 +164,8 @@ fn anchor_hit(
 ) -> Hit
     requires { ⌜ side .bigs ≤ 256 ⌝ }
     ensures { λ r. ⌜ LentPrice (record { highs = now (highs .entry); lows = now (lows .entry) }) (side .buy) r ⌝ }
-    ensures {
-        λ r. ⌜
-            AnchorHit side (now (bars .entry)) (now (prices .entry)) bar from p
-            (record { highs = now (highs .entry); lows = now (lows .entry) }) r
-        ⌝
-    }
+    ensures { λ r. ⌜ AnchorHit side (now (bars .entry)) (now (prices .entry)) bar from p
+        (record { highs = now (highs .entry); lows = now (lows .entry) }) r ⌝ }
 {
     let mut k = from;
     while k < side.bigs {
@@ -206,14 +194,10 @@ fn anchor_marks(
     marks: &mut [[f64; 2]; 512],
 ) -> usize
     requires { ⌜ (found ≤ 256) × (side .anchors ≤ side .bigs) × (side .bigs ≤ 256) ⌝ }
-    requires { ⌜ (length (now highs) ≤ 0x1_0000) × (length (now lows) ≤ 0x1_0000) × Wide (now keys) (now marks) ⌝ }
-    ensures { λ r. ⌜ (found ≤ r) × (r ≤ 512) × Kept (now (keys .entry)) (now (keys .exit)) (now (marks .exit)) ⌝ }
-    ensures {
-        λ r. ⌜
-            AnchorMarks side (now (bars .entry)) (now (prices .entry)) (record { highs = now (highs .entry); lows = now (lows .entry) }) found
-            (now (keys .entry)) (now (marks .entry)) r (now (keys .exit)) (now (marks .exit))
-        ⌝
-    }
+    requires { ⌜ (length (now highs) ≤ 0x1_0000) × (length (now lows) ≤ 0x1_0000) × Places (now keys) (now marks) ⌝ }
+    ensures { λ r. ⌜ (found ≤ r) × (r ≤ 512) × SamePlaces (now (keys .entry)) (now (keys .exit)) (now (marks .exit)) ⌝ }
+    ensures { λ r. ⌜ AnchorMarks side (now (bars .entry)) (now (prices .entry)) (record { highs = now (highs .entry); lows = now (lows .entry) }) found
+        (now (keys .entry)) (now (marks .entry)) r (now (keys .exit)) (now (marks .exit)) ⌝ }
 {
     let mut anchors = [[0u16; 3]; 256];
     let mut cs = [0.0; 256];
@@ -254,8 +238,8 @@ pub fn thirds_of(
     keys: &mut [u32],
     marks: &mut [[f64; 2]; 512],
 ) -> Thirds
-    requires { ⌜ Fits counts × (length (now highs) ≤ 0x1_0000) × (length (now lows) ≤ 0x1_0000) × Wide (now keys) (now marks) ⌝ }
-    ensures { λ r. ⌜ (r .all ≤ 512) × Kept (now (keys .entry)) (now (keys .exit)) (now (marks .exit)) ⌝ }
+    requires { ⌜ Fits counts × (length (now highs) ≤ 0x1_0000) × (length (now lows) ≤ 0x1_0000) × Places (now keys) (now marks) ⌝ }
+    ensures { λ r. ⌜ (r .all ≤ 512) × SamePlaces (now (keys .entry)) (now (keys .exit)) (now (marks .exit)) ⌝ }
     ensures {
         λ r. ⌜
             GathersThirds counts (now (bars .entry)) (now (prices .entry)) (now (sups .entry)) (now (scans .entry)) (now (zp .entry))
