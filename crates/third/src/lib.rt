@@ -92,7 +92,7 @@ fn refusal(number: u8) -> ThirdRows
 }
 
 // The third marks of a chart's overlap zones and anchors: 21, then 8, 1, and 11 where there are more than 256 zones. The chart is handed
-// on once, and what is worked out stands in tables, which are lent.
+// on once, since each function that takes one copies it.
 pub fn bigseg_third_marks_all_zhongshu(chart: Chart, highs: &[f64], lows: &[f64]) -> ThirdRows
     ensures { λ r. ⌜ rowsAnswer (r .number) (r .count) (r .rows) ≡ thirdCall chart (record { highs = now (highs .entry); lows = now (lows .entry) }) ⌝ }
 {
@@ -100,23 +100,36 @@ pub fn bigseg_third_marks_all_zhongshu(chart: Chart, highs: &[f64], lows: &[f64]
     let mut bars = [[0u16; 6]; 256];
     let mut prices = [[0.0; 3]; 256];
     let mut sups = [[0u16; 5]; 256];
-    let mut scans = [[0u32; 4]; 256];
-    let mut keys = [0u32; 512];
-    let mut marks = [[0.0; 2]; 512];
-    let found = mark_thirds::thirds_of(
+    let mut zb = [[0u16; 5]; 256];
+    let mut zp = [[0.0; 4]; 256];
+    let begun = zones::tables_of(
         chart,
         own,
-        highs,
-        lows,
         &mut bars,
         &mut prices,
         &mut sups,
-        &mut scans,
+        &mut zb,
+        &mut zp,
+    );
+    if begun.number != 0 {
+        return refusal(begun.number);
+    }
+    let counts = begun.counts;
+    let mut scans = [[0u32; 4]; 256];
+    mark_scan::scans_of(&bars, &prices, &sups, &zb, counts, &mut scans);
+    let mut keys = [0u32; 512];
+    let mut marks = [[0.0; 2]; 512];
+    let found = mark_thirds::thirds_of(
+        &bars,
+        &prices,
+        &sups,
+        &scans,
+        &zp,
+        counts,
+        highs,
+        lows,
         &mut keys,
         &mut marks,
     );
-    if found.number != 0 {
-        return refusal(found.number);
-    }
     rows_of(found.zoned, found.all, &keys, &marks)
 }

@@ -1,82 +1,101 @@
 -- `third::bigseg_third_marks_all_zhongshu` meets its contract. Assumes nothing.
 use Prim.Native.Nat.{_≤_}
 use native.Mathlib.Omega.{arith}
-use mathlib.Core.Path.{refl, sym, _∙_}
+use mathlib.Core.Path.{_≡_, refl, sym, _∙_}
 use lib.ListN.{length}
 use borrow.Author.Needs.{needs}
+use Rattle.zones.proofs.Call.{own-none}
+use Rattle.mark_scan.proofs.Scans.{tables-owners}
 use Rattle.mark_hits.proofs.Quotes.{quotes-fit}
-use Rattle.mark_thirds.proofs.Whole.{own-none}
 use Rattle.third.proofs.Call.{third-refused, third-given}
 use Rattle.third.proofs.Rows.{bars-small}
 use Rattle.third.proofs.bigseg_third_marks_all_zhongshu.Statement.{statement}
 use Rattle.third.proofs.bigseg_third_marks_all_zhongshu.Tie as tie
 
 -- the places of the code that the proof goes back to
-abbrev priced : tie.After-thirds-of → tie.After-quotes-refusal
-priced c = c .before .before .before .before .before .before .before
-
 abbrev start : tie.After-quotes-refusal → tie.Start
 start c = c .before .before .before
 
-abbrev made : tie.Else1 → tie.After-thirds-of
-made c = c .before .before .before
+abbrev priced : tie.After-tables-of → tie.After-quotes-refusal
+priced c = c .before .before .before .before .before .before
+
+abbrev begun : tie.Else1 → tie.After-tables-of
+begun c = c .before .before
+
+abbrev known : tie.After-scans-of → tie.Else1
+known c = c .before .before .before .before .before .before .before
+
+abbrev scanned : tie.After-thirds-of → tie.After-scans-of
+scanned c = c .before .before .before .before .before .before .before .before
 
 -- the slices are not refused with 8 or 1, so they are short enough
 short :
     (c : tie.Else1)
-    → (length (start (priced (made c)) .args .highs .now) ≤ 0x1_0000) × (length (start (priced (made c)) .args .lows .now) ≤ 0x1_0000)
+    → (length (start (priced (begun c)) .args .highs .now) ≤ 0x1_0000) × (length (start (priced (begun c)) .args .lows .now) ≤ 0x1_0000)
 short c =
-    let own = own-none _ _ (sym (made c .thirds-of .ensures .0) ∙ c .if1 .left) in
-    let fit = quotes-fit _ _ (sym own ∙ priced (made c) .quotes-refusal .ensures) in
+    let own = own-none _ _ (sym (begun c .tables-of .ensures .0) ∙ c .if1 .left) in
+    let fit = quotes-fit _ _ (sym own ∙ priced (begun c) .quotes-refusal .ensures) in
     (fit .0, fit .1)
 
 quotes-refusal-requires : tie.Need-quotes-refusal-requires
 quotes-refusal-requires c κs = search needs
 
-slice-aggregate-thirds-of : tie.Need-slice-aggregate-thirds-of
-slice-aggregate-thirds-of c = search needs
-
-thirds-of-requires : tie.Need-thirds-of-requires
-thirds-of-requires c κs =
-    let at-quotes = c .before .before .before .before .before .before in (
-      λ none. let fit = quotes-fit _ _ (sym none ∙ at-quotes .quotes-refusal .ensures) in (fit .0, fit .1),
-      ((refl, refl, refl, refl), (omega arith, refl)),
-    )
+tables-of-requires : tie.Need-tables-of-requires
+tables-of-requires c κs = ((refl, refl), (refl, refl), refl)
 
 refusal-requires : tie.Need-refusal-requires
 refusal-requires c κs = search needs
 
 returns : tie.Need-returns
 returns c =
-    let at-thirds = c .before .before .before .before in
-    c .refusal .ensures ∙ third-refused _ _ _ (priced at-thirds .quotes-refusal .ensures) _ (at-thirds .thirds-of .ensures .0) (c .before .if1 .taken)
+    let made = c .before .before .before in
+    c .refusal .ensures ∙ third-refused _ _ _ (priced made .quotes-refusal .ensures) _ (made .tables-of .ensures .0) (c .before .if1 .taken)
+
+scans-of-requires : tie.Need-scans-of-requires
+scans-of-requires c κs =
+    let here = c .before .before .before .before .before .before in
+    let t = begun here .tables-of .ensures .1 .0 (here .if1 .left) in
+    (t .fits, tables-owners _ _ _ _ _ _ _ t, refl)
+
+slice-aggregate-thirds-of : tie.Need-slice-aggregate-thirds-of
+slice-aggregate-thirds-of c = search needs
+
+thirds-of-requires : tie.Need-thirds-of-requires
+thirds-of-requires c κs =
+    let here = known (c .before .before .before .before .before .before .before) in
+    (begun here .tables-of .ensures .1 .0 (here .if1 .left) .fits, short here .0, short here .1, (omega arith, refl))
 
 slice-aggregate-rows-of : tie.Need-slice-aggregate-rows-of
 slice-aggregate-rows-of c = search needs
 
 rows-of-requires : tie.Need-rows-of-requires
 rows-of-requires c κs =
-    let known = c .before .before in
-    let gathered = made known .thirds-of .ensures .1 .0 (known .if1 .left) in
-    let room = gathered .room in
-    (room, search needs, bars-small _ _ _ _ _ _ (gathered .marked) (short known .0) (short known .1))
+    let made = c .before .before .before in
+    let here = known (scanned made) in
+    let t = begun here .tables-of .ensures .1 .0 (here .if1 .left) in
+    let marked = made .thirds-of .ensures .1 _ _ t (scanned made .scans-of .ensures .1 _ _ t) in
+    let room = made .thirds-of .ensures .0 in
+    (room .0, omega (arith, room .0, room .1 .0), bars-small _ _ _ _ _ _ marked (short here .0) (short here .1))
 
 returns-2 : tie.Need-returns-2
 returns-2 c =
-    let known = c .before .before .before in
-    let at-thirds = made known in
-    c .rows-of .ensures _ (at-thirds .thirds-of .ensures .1 .0 (known .if1 .left) .marked)
-    ∙ third-given _ _ _ (priced at-thirds .quotes-refusal .ensures) (sym (known .if1 .left) ∙ at-thirds .thirds-of .ensures .0)
+    let made = c .before .before .before .before in
+    let here = known (scanned made) in
+    let t = begun here .tables-of .ensures .1 .0 (here .if1 .left) in
+    c .rows-of .ensures _ (made .thirds-of .ensures .1 _ _ t (scanned made .scans-of .ensures .1 _ _ t))
+    ∙ third-given _ _ _ (priced (begun here) .quotes-refusal .ensures) (sym (here .if1 .left) ∙ begun here .tables-of .ensures .0)
 
 pub bigseg-third-marks-all-zhongshu-spec : {M : Type 1} → statement M
 bigseg-third-marks-all-zhongshu-spec =
     tie.close
     (tie.spec
     quotes-refusal-requires
-    slice-aggregate-thirds-of
-    thirds-of-requires
+    tables-of-requires
     refusal-requires
     returns
+    scans-of-requires
+    slice-aggregate-thirds-of
+    thirds-of-requires
     slice-aggregate-rows-of
     rows-of-requires
     returns-2)
