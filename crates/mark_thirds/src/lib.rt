@@ -17,7 +17,17 @@ ghost use Rattle.rules.specs.Records.{isUp};
 ghost use Rattle.tables.specs.Tables.{Fits};
 ghost use Rattle.mark_hits.specs.Found.{LentPrice};
 ghost use Rattle.mark_thirds.specs.Third.{
-    Places, SamePlaces, OneMore, PutsMark, OnBar, PutsHit, ZoneHit, ZoneMarks, AnchorHit, AnchorMarks, GathersThirds
+  Places,
+  SamePlaces,
+  OneMore,
+  PutsMark,
+  OnBar,
+  PutsHit,
+  ZoneHit,
+  ZoneMarks,
+  AnchorHit,
+  AnchorMarks,
+  GathersThirds,
 };
 
 // ---- marks
@@ -240,12 +250,10 @@ pub fn thirds_of(
 ) -> Thirds
     requires { ⌜ Fits counts × (length (now highs) ≤ 0x1_0000) × (length (now lows) ≤ 0x1_0000) × Places (now keys) (now marks) ⌝ }
     ensures { λ r. ⌜ (r .all ≤ 512) × SamePlaces (now (keys .entry)) (now (keys .exit)) (now (marks .exit)) ⌝ }
-    ensures {
-        λ r. ⌜
-            GathersThirds counts (now (bars .entry)) (now (prices .entry)) (now (sups .entry)) (now (scans .entry)) (now (zp .entry))
-            (record { highs = now (highs .entry); lows = now (lows .entry) }) r (now (keys .exit)) (now (marks .exit))
-        ⌝
-    }
+    ensures { λ r. ⌜
+        GathersThirds counts (now (bars .entry)) (now (prices .entry)) (now (sups .entry)) (now (scans .entry)) (now (zp .entry))
+        (record { highs = now (highs .entry); lows = now (lows .entry) }) r (now (keys .exit)) (now (marks .exit))
+        ⌝ }
 {
     let zoned = zone_marks(bars, prices, scans, zp, counts, highs, lows, keys, marks);
     let side = mark_hits::side_of(sups, counts);

@@ -1,7 +1,7 @@
 -- The call on a chart: refused with 21, with 8 or 1, with 11, or given the marks of its zones and anchors. Assumes nothing.
 use Prim.Native.Nat.{ℕ}
 use mathlib.Core.Path.{_≡_, refl}
-use mathlib.Core.Bool.{Bool, true, false, cond}
+use mathlib.Core.Bool.{false, cond}
 use mathlib.Core.List.{List}
 use lib.Dec.{eqb}
 use Rattle.chart.specs.declared.ThirdMark.{ThirdMark}
@@ -9,21 +9,12 @@ use Rattle.chart.specs.declared.Chart.{Chart}
 use Rattle.rules.specs.Answer.{refused, given, answered}
 use Rattle.rules.specs.Records.{Levels, levelsOf, Quotes}
 use Rattle.rules.specs.Marks.{thirdMarks}
-use Rattle.rules.specs.Refusals.{refuse, badSlices, badQuotes, zonesRefusal, thirdRefusal}
+use Rattle.rules.specs.Refusals.{refuse, zonesRefusal, thirdRefusal}
 use Rattle.rules.specs.Calls.{onChart, thirdCall}
 use Rattle.mark_hits.specs.Found.{quotesRefusal}
+use Rattle.mark_hits.proofs.Quotes.{quotes-then}
 use Rattle.zones.specs.Filled.{callNumber}
 use Rattle.zones.proofs.Call.{call-refused, call-given}
-
--- 8 or 1, and else what follows
-quotes-then : (q : Quotes) (k : ℕ) → quotesRefusal q k ≡ cond (eqb (quotesRefusal q 0) 0) k (quotesRefusal q 0)
-unfolding refuse
-quotes-then q k = go (badSlices q) (badQuotes q)
-  where
-    go : (a b : Bool) → refuse a 8 (refuse b 1 k) ≡ cond (eqb (refuse a 8 (refuse b 1 0)) 0) k (refuse a 8 (refuse b 1 0))
-    go true b = refl
-    go false true = refl
-    go false false = refl
 
 module _ (c : Chart) (q : Quotes) (own : ℕ) (is : own ≡ quotesRefusal q 0) where
   abbrev marks : Levels → List ThirdMark
@@ -37,7 +28,8 @@ module _ (c : Chart) (q : Quotes) (own : ℕ) (is : own ≡ quotesRefusal q 0) w
   third-is = refl
 
   first : rest (levelsOf c) ≡ cond (eqb own 0) (zonesRefusal (levelsOf c)) own
-  first = rw is (quotes-then q (zonesRefusal (levelsOf c)))
+  unfolding refuse
+  first = rw is (quotes-then q false 0 (zonesRefusal (levelsOf c)))
 
   pub third-refused : (n : ℕ) → n ≡ callNumber c own → (n ≡ 0 → ⊥) → refused n ≡ thirdCall c q
   third-refused = call-refused c own rest marks (thirdCall c q) third-is first

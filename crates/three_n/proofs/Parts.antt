@@ -1,10 +1,11 @@
 -- 3+N rows from their parts: the third marks, the rows of the superiors and those of the anchors. Assumes nothing.
 use Prim.Native.Nat.{ℕ, zero, suc, _<_, _≤_}
 use native.Mathlib.Omega.{arith}
-use mathlib.Core.Path.{_≡_, refl, sym, ap}
-use mathlib.Core.Bool.{Bool, false}
+use mathlib.Core.Path.{_≡_, refl, sym, ap, _∙_}
+use mathlib.Core.Bool.{false}
 use mathlib.Core.List.{List, [], _∷_, _++_, map, foldl}
 use lib.ListN.{length, take, replicate, getElem?, length-map}
+use lib.Seq.{length-take-le}
 use lib.Dec.{leb}
 use lib.Ieee.{Float, nan}
 use borrow.Author.Tests.{leb-false}
@@ -25,10 +26,14 @@ use Rattle.laws.proofs.Room.{AtEnd, thirds-end}
 use Rattle.numbering.specs.Rows.{rowKey, marksIn, Room}
 use Rattle.numbering.proofs.Gathered.{room-thirds}
 use Rattle.numbering.proofs.Filled.{zero-mark}
-use Rattle.columns.specs.Columns.{Column}
-use Rattle.columns.proofs.Fill.{column-length}
-use Rattle.scan.specs.Scan.{Scanning}
-use Rattle.three_n.specs.Gather.{EndsInside, Anchors, Ready, Given}
+use Rattle.tables.specs.Tables.{Bigs}
+use Rattle.mark_hits.specs.declared.Side.{Side}
+use Rattle.mark_hits.specs.Anchors.{Anchoring}
+use Rattle.three_n.specs.Gather.{EndsInside}
+
+-- the tables have as many bigs as the anchors' side counts
+pub bigs-by : (c : Levels) (n m : ℕ) (bars : List (List ℕ)) (prices : List (List Float)) → m ≡ n → Bigs c n bars prices → Bigs c m bars prices
+bigs-by c n m bars prices e t = rw e t
 
 -- ---- no stroke ends outside the slices, so no big does
 
@@ -58,7 +63,7 @@ unfolding marksIn
 zero-rows q [] nil = refl
 zero-rows q (m ∷ ms) (cons h t) = rw (zero-mark q m h, zero-rows q ms t)
 
-module _ (c : Levels) (q : Quotes) (zeros : ℕ) (keys : List ℕ) (e : Column rowKey zeros keys (thirdMarks c q)) where
+module _ (c : Levels) (q : Quotes) (zeros : ℕ) (keys : List ℕ) (e : take zeros keys ≡ map rowKey (thirdMarks c q)) where
   abbrev thirds : List ThirdMark
   thirds = thirdMarks c q
 
@@ -72,12 +77,13 @@ module _ (c : Levels) (q : Quotes) (zeros : ℕ) (keys : List ℕ) (e : Column r
   thirds-room few small inside =
       room-thirds
       (omega (arith, few, length-map (collect (lastStroke c) (c .bigs)) (λ (s : Stroke). s .«end_bar»), collect-length (lastStroke c) (c .bigs)))
-      (all-map (λ b h. omega (arith, h .0, small)) inside) (e .are) (thirds-distinct c q) (thirds-end c q)
+      (all-map (λ b h. omega (arith, h .0, small)) inside) e (thirds-distinct c q) (thirds-end c q)
 
-  pub zero-marks : length keys ≡ 513 → marksIn q (take zeros keys) (take zeros (replicate 513 0)) ≡ map orderZero thirds
-  zero-marks h =
-      let same = column-length rowKey zeros keys thirds e in
-      rw (e .are, zeros-taken zeros 513 (omega (arith, h, e .long)), ← same) (zero-rows q thirds thirds-priced)
+  pub zero-marks : length keys ≡ 513 → zeros ≤ 512 → marksIn q (take zeros keys) (take zeros (replicate 513 0)) ≡ map orderZero thirds
+  zero-marks h few =
+      let same : zeros ≡ length thirds =
+      sym (length-take-le zeros keys (omega (arith, h, few))) ∙ ap (λ (l : List ℕ). length l) e ∙ length-map thirds rowKey in
+      rw (e, zeros-taken zeros 513 (omega (arith, few)), same) (zero-rows q thirds thirds-priced)
 
   -- ---- all rows
 
@@ -86,35 +92,13 @@ module _ (c : Levels) (q : Quotes) (zeros : ℕ) (keys : List ℕ) (e : Column r
   fold-append l (m ∷ a) b = fold-append (push3N l m) a b
 
   pub marks-are :
-      (k : ℕ) (buy : Bool) → Anchors c q k buy → (zero-rows superior-marks all-marks : List NMark) → zero-rows ≡ map orderZero thirds
+      (s : Side) → Anchoring c s → (zero-rows superior-marks all-marks : List NMark) → zero-rows ≡ map orderZero thirds
       → superior-marks ≡ foldl push3N zero-rows (superiorsNumbered c q (overlapZones c) thirds 0 (c .superiors))
-      → all-marks ≡ foldl push3N superior-marks (each (anchorNumbered c q buy) (collect (lastStroke c) (take k (c .bigs))))
+      → all-marks ≡ foldl push3N superior-marks (each (anchorNumbered c q (s .buy)) (collect (lastStroke c) (take (s .anchors) (c .bigs))))
       → all-marks ≡ nMarks c q
   unfolding nMarks
-  marks-are k buy anchors zero-rows superior-marks all-marks z s a =
-      rw (a, anchors, s, z)
+  marks-are s side zero-rows superior-marks all-marks z m a =
+      rw (a, side .anchors, side .buy, m, z)
       (sym
       (fold-append (map orderZero thirds) (superiorsNumbered c q (overlapZones c) thirds 0 (c .superiors))
       (each (anchorNumbered c q (anchorSide (c .superiors))) (anchorsOf c (c .superiors)))))
-
--- ---- what the rows are gathered from is that of a chart
-
-module _
-    (c : Levels) (q : Quotes) (m n h : ℕ) (ways starts ends points : List ℕ) (prices : List Float) (superiors : List Triple)
-    (owners zone-starts zone-ends : List ℕ) (zds zgs : List Float)
-    (g : Given c q m n h ways starts ends points prices superiors owners zone-starts zone-ends zds zgs)
-  where
-    pub ready :
-        (sides froms limits : List ℕ) (k : ℕ) (buy : Bool) (zeros : ℕ) (keys : List ℕ)
-        → Scanning c (overlapZones c) n sides froms limits → Anchors c q k buy → Column rowKey zeros keys (thirdMarks c q)
-        → Ready c q m n h ways ends points prices owners sides froms limits superiors k buy zeros keys
-    ready sides froms limits k buy zeros keys scans anchors thirds =
-        record {
-          stood = record { by-way = g .bigs .by-way; by-end = g .bigs .by-end; by-owner = g .zones .by-owner; scans = scans };
-          by-point = g .bigs .by-point;
-          by-price = g .bigs .by-price;
-          level = g .level;
-          anchors = anchors;
-          thirds = thirds;
-          inside = g .inside;
-        }

@@ -54,9 +54,7 @@ fn ends_outside(strokes: [Stroke; 512], n: usize, len: usize) -> bool
 
 // 8, 1, and 9 where one of the first n strokes ends outside the slices. A count above all strokes is refused with 21, and counts as all here.
 fn own_number(strokes: [Stroke; 512], n: usize, highs: &[f64], lows: &[f64]) -> u8
-    ensures {
-        λ r. ⌜ r ≡ ownNumber (take n strokes) (record { highs = now (highs .entry); lows = now (lows .entry) }) ⌝
-    }
+    ensures { λ r. ⌜ r ≡ ownNumber (take n strokes) (record { highs = now (highs .entry); lows = now (lows .entry) }) ⌝ }
 {
     let number = mark_hits::quotes_refusal(highs, lows);
     if number != 0 {
@@ -84,13 +82,9 @@ fn rows_by(
     keys: &mut [u32],
 ) -> NRows
     requires { ⌜ Fits counts × (length (now highs) ≤ 0x1_0000) × (length (now lows) ≤ 0x1_0000) × (length (now keys) ≡ 513) ⌝ }
-    requires {
-        ⌜ ((c : Levels) × Ready c (record { highs = now highs; lows = now lows }) counts (now bars) (now prices) (now sups) (now scans) zeros (now keys)) ⌝
-    }
-    ensures {
-        λ r. ⌜ GivesMarks (record { highs = now (highs .entry); lows = now (lows .entry) }) counts (now (bars .entry)) (now (prices .entry))
-        (now (sups .entry)) (now (scans .entry)) zeros (now (keys .entry)) r ⌝
-    }
+    requires { ⌜ ((c : Levels) × Ready c (record { highs = now highs; lows = now lows }) counts (now bars) (now prices) (now sups) (now scans) zeros (now keys)) ⌝ }
+    ensures { λ r. ⌜ GivesMarks (record { highs = now (highs .entry); lows = now (lows .entry) }) counts (now (bars .entry)) (now (prices .entry))
+        (now (sups .entry)) (now (scans .entry)) zeros (now (keys .entry)) r ⌝ }
 {
     let mut orders = [0u32; 513];
     let count = mark_superiors::superior_rows(
@@ -162,5 +156,15 @@ pub fn bigseg_3n_marks_all_zhongshu(chart: Chart, highs: &[f64], lows: &[f64]) -
         &mut keys,
         &mut marks,
     );
-    rows_by(&sups, &scans, &bars, &prices, counts, highs, lows, found.all, &mut keys)
+    rows_by(
+        &sups,
+        &scans,
+        &bars,
+        &prices,
+        counts,
+        highs,
+        lows,
+        found.all,
+        &mut keys,
+    )
 }

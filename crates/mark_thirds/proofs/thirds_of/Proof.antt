@@ -26,7 +26,7 @@ returns c =
     let kept = anchors .anchor-marks .ensures .0 in (
       (kept .1, (kept .2 .0 ∙ zones .zone-marks .ensures .0 .1 .0, kept .2 .1)),
       λ l zb t s.
-      marked-whole _ _ _ _ _ _ _ _ _ _ _ _ (side .side-of .ensures .1 _ (t .bigs .count) (t .superiors)) (side .side-of .ensures .0 .0) (t .bigs)
+          marked-whole _ _ _ _ _ _ _ _ _ _ _ _ (side .side-of .ensures .1 _ (t .bigs .count) (t .superiors)) (side .side-of .ensures .0 .0) (t .bigs)
           (zones .zone-marks .ensures .1 _ _ _ (t .bigs) (s .scans) (t .zones)) (anchors .anchor-marks .ensures .1),
     )
 

@@ -1,295 +1,120 @@
 -- `three_n::bigseg_3n_marks_all_zhongshu` meets its contract. Assumes nothing.
 use native.Mathlib.Omega.{arith}
 use mathlib.Core.Path.{_≡_, refl, sym, _∙_}
-use mathlib.Core.Bool.{false}
 use borrow.Author.Needs.{needs}
-use Rattle.chart.specs.declared.Zone.{Zone}
 use Rattle.rules.specs.Records.{levelsOf, Quotes}
-use Rattle.rules.specs.Ranges.{rangeOf}
-use Rattle.rules.specs.Zones.{overlapZones}
-use Rattle.rules.specs.Refusals.{badChart, endsOutside}
-use Rattle.laws.proofs.Answers.{Counted, counted}
-use Rattle.columns.proofs.Fill.{column-length}
-use Rattle.scan.specs.Scan.{quotesRefusal}
-use Rattle.scan.proofs.Quotes.{quotes-fit}
-use Rattle.scan.proofs.Zones.{owners-below}
-use Rattle.mark_columns.proofs.Whole.{zones-own, zones-many, zones-few}
+use Rattle.zones.proofs.Call.{own-none}
+use Rattle.mark_scan.proofs.Scans.{tables-owners}
+use Rattle.mark_hits.proofs.Quotes.{quotes-fit}
+use Rattle.mark_thirds.proofs.Marked.{marked-keys}
+use Rattle.three_n.specs.Gather.{Ready}
 use Rattle.three_n.proofs.Parts.{ends-inside}
-use Rattle.three_n.proofs.Refused.{n-bad, n-quotes, n-outside, n-many, n-given}
+use Rattle.three_n.proofs.Refused.{n-refused, n-given, quotes-good, ends-good}
 use Rattle.three_n.proofs.bigseg_3n_marks_all_zhongshu.Statement.{statement}
 use Rattle.three_n.proofs.bigseg_3n_marks_all_zhongshu.Tie as tie
 
-abbrev start : tie.Else1 → tie.Start
-start c = c .before .before .before .before .before .before .before .before .before .before .before .before .before .before .before .before .before .before
+-- the places of the code that the proof goes back to
+abbrev start : tie.After-own-number → tie.Start
+start c = c .before .before .before .before .before
 
-abbrev at-bigs : tie.Else1 → tie.After-bigs-of
-at-bigs c = c .before .before .before .before .before .before .before .before
+abbrev priced : tie.After-tables-of → tie.After-own-number
+priced c = c .before .before .before .before .before .before
 
--- the chart is not refused with 21
-good : (c : tie.Else1) → badChart (start c .args .chart) ≡ false
-good c = sym (at-bigs c .bigs-of .ensures .0) ∙ c .if1 .left
+abbrev begun : tie.Else1 → tie.After-tables-of
+begun c = c .before .before
 
-counts : (c : tie.Else1) → Counted (start c .args .chart)
-counts c = counted _ (good c)
+abbrev known : tie.After-scans-of → tie.Else1
+known c = c .before .before .before .before .before .before .before
 
-abbrev quotes : tie.Else1 → Quotes
+abbrev scanned : tie.After-thirds-of → tie.After-scans-of
+scanned c = c .before .before .before .before .before .before .before .before
+
+abbrev quotes : tie.After-own-number → Quotes
 quotes c = record { highs = start c .args .highs .now; lows = start c .args .lows .now }
 
--- nor with 8 or 1
-passed : (c : tie.Else2) → 0 ≡ quotesRefusal (quotes (c .before .before)) 0
-passed c = sym (c .if2 .left) ∙ c .before .quotes-refusal .ensures
+-- the call has no number of its own
+none : (c : tie.Else1) → priced (begun c) .own-number .result ≡ 0
+none c = own-none _ _ (sym (begun c .tables-of .ensures .0) ∙ c .if1 .left)
 
-abbrev else1 : tie.Else2 → tie.Else1
-else1 c = c .before .before
+cast-own-number : tie.Need-cast-own-number
+cast-own-number c = search needs
 
-abbrev else2 : tie.Else3 → tie.Else2
-else2 c = c .before .before .before .before
+own-number-requires : tie.Need-own-number-requires
+own-number-requires c κs = search needs
 
--- nor with 9
-within : (c : tie.Else3) → endsOutside (levelsOf (start (else1 (else2 c)) .args .chart)) (quotes (else1 (else2 c))) ≡ false
-unfolding endsOutside levelsOf
-within c = sym (c .before .ends-outside .ensures) ∙ c .if3 .left
-
-abbrev else3 : tie.After-overlap-columns → tie.Else3
-else3 c = c .before .before .before .before .before .before .before .before .before .before .before .before .before .before
-
-abbrev first : tie.After-overlap-columns → tie.Else1
-first c = else1 (else2 (else3 c))
-
-slice-aggregate-bigs-of : tie.Need-slice-aggregate-bigs-of
-slice-aggregate-bigs-of c = search needs
-
-slice-aggregate-bigs-of-2 : tie.Need-slice-aggregate-bigs-of-2
-slice-aggregate-bigs-of-2 c = search needs
-
-slice-aggregate-bigs-of-3 : tie.Need-slice-aggregate-bigs-of-3
-slice-aggregate-bigs-of-3 c = search needs
-
-slice-aggregate-bigs-of-4 : tie.Need-slice-aggregate-bigs-of-4
-slice-aggregate-bigs-of-4 c = search needs
-
-slice-aggregate-bigs-of-5 : tie.Need-slice-aggregate-bigs-of-5
-slice-aggregate-bigs-of-5 c = search needs
-
-slice-aggregate-bigs-of-6 : tie.Need-slice-aggregate-bigs-of-6
-slice-aggregate-bigs-of-6 c = search needs
-
-slice-aggregate-bigs-of-7 : tie.Need-slice-aggregate-bigs-of-7
-slice-aggregate-bigs-of-7 c = search needs
-
-bigs-of-requires : tie.Need-bigs-of-requires
-bigs-of-requires c κs = (refl, refl, refl, refl, refl, refl, refl)
+tables-of-requires : tie.Need-tables-of-requires
+tables-of-requires c κs = ((refl, refl), (refl, refl), refl)
 
 refusal-requires : tie.Need-refusal-requires
 refusal-requires c κs = search needs
 
 returns : tie.Need-returns
 returns c =
-    c .refusal .ensures ∙ n-bad _ _ (sym (c .before .before .before .before .before .before .before .before .before .bigs-of .ensures .0) ∙ c .before .if1 .taken)
+    let made = c .before .before .before in
+    c .refusal .ensures ∙ n-refused _ (quotes (priced made)) _ (priced made .own-number .ensures) _ (made .tables-of .ensures .0) (c .before .if1 .taken)
 
-quotes-refusal-requires : tie.Need-quotes-refusal-requires
-quotes-refusal-requires c κs = search needs
+scans-of-requires : tie.Need-scans-of-requires
+scans-of-requires c κs =
+    let here = c .before .before .before .before .before .before in
+    let t = begun here .tables-of .ensures .1 .0 (here .if1 .left) in
+    (t .fits, tables-owners _ _ _ _ _ _ _ t, refl)
 
-refusal-requires-2 : tie.Need-refusal-requires-2
-refusal-requires-2 c κs = search needs
+slice-aggregate-thirds-of : tie.Need-slice-aggregate-thirds-of
+slice-aggregate-thirds-of c = search needs
 
-returns-2 : tie.Need-returns-2
-returns-2 c =
-    let at-quotes = c .before .before in
-    c .refusal2 .ensures ∙ n-quotes _ (quotes (at-quotes .before)) (good (at-quotes .before)) _ (at-quotes .quotes-refusal .ensures) (c .before .if2 .taken)
+thirds-of-requires : tie.Need-thirds-of-requires
+thirds-of-requires c κs =
+    let here = known (c .before .before .before .before .before .before .before) in
+    let own = priced (begun here) in
+    let fit = quotes-fit _ _ (quotes-good (start own .args .chart) (quotes own) _ (own .own-number .ensures) (none here)) in
+    (begun here .tables-of .ensures .1 .0 (here .if1 .left) .fits, fit .0, fit .1, (omega arith, refl))
 
-cast-ends-outside : tie.Need-cast-ends-outside
-cast-ends-outside c = search needs
+slice-aggregate-rows-by : tie.Need-slice-aggregate-rows-by
+slice-aggregate-rows-by c = search needs
 
-ends-outside-requires : tie.Need-ends-outside-requires
-ends-outside-requires c κs = counts (else1 (c .before .before)) .strokes
-
-refusal-requires-3 : tie.Need-refusal-requires-3
-refusal-requires-3 c κs = search needs
-
-returns-3 : tie.Need-returns-3
-unfolding endsOutside levelsOf
-returns-3 c =
-    let at-ends = c .before .before in
-    let e2 = at-ends .before .before .before in
-    c .refusal3 .ensures
-    ∙ n-outside _ (quotes (else1 e2)) (good (else1 e2)) (passed e2) (sym (at-ends .ends-outside .ensures) ∙ c .before .if3 .taken)
-
-cast-m : tie.Need-cast-m
-cast-m c = search needs
-
-cast-h : tie.Need-cast-h
-cast-h c = search needs
-
-slice-aggregate-overlap-columns : tie.Need-slice-aggregate-overlap-columns
-slice-aggregate-overlap-columns c = search needs
-
-slice-aggregate-overlap-columns-2 : tie.Need-slice-aggregate-overlap-columns-2
-slice-aggregate-overlap-columns-2 c = search needs
-
-slice-aggregate-overlap-columns-3 : tie.Need-slice-aggregate-overlap-columns-3
-slice-aggregate-overlap-columns-3 c = search needs
-
-slice-aggregate-overlap-columns-4 : tie.Need-slice-aggregate-overlap-columns-4
-slice-aggregate-overlap-columns-4 c = search needs
-
-slice-aggregate-overlap-columns-5 : tie.Need-slice-aggregate-overlap-columns-5
-slice-aggregate-overlap-columns-5 c = search needs
-
-slice-aggregate-overlap-columns-6 : tie.Need-slice-aggregate-overlap-columns-6
-slice-aggregate-overlap-columns-6 c = search needs
-
-slice-aggregate-overlap-columns-7 : tie.Need-slice-aggregate-overlap-columns-7
-slice-aggregate-overlap-columns-7 c = search needs
-
-slice-aggregate-overlap-columns-8 : tie.Need-slice-aggregate-overlap-columns-8
-slice-aggregate-overlap-columns-8 c = search needs
-
-slice-aggregate-overlap-columns-9 : tie.Need-slice-aggregate-overlap-columns-9
-slice-aggregate-overlap-columns-9 c = search needs
-
-slice-aggregate-overlap-columns-10 : tie.Need-slice-aggregate-overlap-columns-10
-slice-aggregate-overlap-columns-10 c = search needs
-
-overlap-columns-requires : tie.Need-overlap-columns-requires
-overlap-columns-requires c κs =
-    let e1 = else1 (else2 (c .before .before .before .before .before .before .before .before .before .before .before .before .before)) in
-    let n = counts e1 in
-    let bigs = at-bigs e1 .bigs-of .ensures .1 (e1 .if1 .left) .0 in
-    let kept = at-bigs e1 .bigs-of .kept in (
-      (n .superiors, n .bigs, bigs .by-way .long, bigs .by-start .long, bigs .by-end .long, omega (arith, n .bigs, kept .1 .1 .1 .1 .0), omega (arith, n .bigs, kept .1 .1 .1 .1 .1 .0)),
-      (refl, refl, refl, refl, refl),
-    )
-
-refusal-requires-4 : tie.Need-refusal-requires-4
-refusal-requires-4 c κs = search needs
-
-returns-4 : tie.Need-returns-4
-unfolding levelsOf overlapZones
-returns-4 c =
-    let at-overlap = c .before .before .before .before .before .before .before in
-    let e3 = else3 at-overlap in
-    let e1 = first at-overlap in
-    let l = levelsOf (start e1 .args .chart) in
-    let bigs = at-bigs e1 .bigs-of .ensures .1 (e1 .if1 .left) in
-    let found = at-overlap .overlap-columns .ensures .1 (rangeOf l) (l .bigs) (bigs .0 .by-way) (bigs .1) in
-    c .refusal4 .ensures
-    ∙ n-many _ (quotes e1) (good e1) (passed (else2 e3)) (within e3) 11 (zones-many l (found .0 (c .before .if4 .taken))) (λ e. omega arith)
-
-slice-aggregate-marks-of : tie.Need-slice-aggregate-marks-of
-slice-aggregate-marks-of c = search needs
-
-slice-aggregate-marks-of-2 : tie.Need-slice-aggregate-marks-of-2
-slice-aggregate-marks-of-2 c = search needs
-
-slice-aggregate-marks-of-3 : tie.Need-slice-aggregate-marks-of-3
-slice-aggregate-marks-of-3 c = search needs
-
-slice-aggregate-marks-of-4 : tie.Need-slice-aggregate-marks-of-4
-slice-aggregate-marks-of-4 c = search needs
-
-slice-aggregate-marks-of-5 : tie.Need-slice-aggregate-marks-of-5
-slice-aggregate-marks-of-5 c = search needs
-
-slice-aggregate-marks-of-6 : tie.Need-slice-aggregate-marks-of-6
-slice-aggregate-marks-of-6 c = sym (at-bigs (first (c .before .before .before .before .before .before .before .before .before .before .before .before)) .bigs-of .kept .1 .0)
-
-slice-aggregate-marks-of-7 : tie.Need-slice-aggregate-marks-of-7
-slice-aggregate-marks-of-7 c = sym (at-bigs (first (c .before .before .before .before .before .before .before .before .before .before .before .before .before)) .bigs-of .kept .1 .1 .0)
-
-slice-aggregate-marks-of-8 : tie.Need-slice-aggregate-marks-of-8
-slice-aggregate-marks-of-8 c = sym (at-bigs (first (c .before .before .before .before .before .before .before .before .before .before .before .before .before .before)) .bigs-of .kept .1 .1 .1 .0)
-
-slice-aggregate-marks-of-9 : tie.Need-slice-aggregate-marks-of-9
-slice-aggregate-marks-of-9 c = sym (at-bigs (first (c .before .before .before .before .before .before .before .before .before .before .before .before .before .before .before)) .bigs-of .kept .1 .1 .1 .1 .1 .1 .0)
-
-slice-aggregate-marks-of-10 : tie.Need-slice-aggregate-marks-of-10
-slice-aggregate-marks-of-10 c = sym (at-bigs (first (c .before .before .before .before .before .before .before .before .before .before .before .before .before .before .before .before)) .bigs-of .kept .1 .1 .1 .1 .1 .1 .1 .0)
-
-marks-of-requires : tie.Need-marks-of-requires
-unfolding levelsOf overlapZones
-marks-of-requires c κs =
-    let e4 = c .before .before .before .before .before .before .before .before .before .before in
-    let at-overlap = e4 .before .before .before .before .before .before in
-    let e3 = else3 at-overlap in
-    let e1 = first at-overlap in
-    let chart = start e1 .args .chart in
-    let l = levelsOf chart in
-    let n = counts e1 in
-    let fit = quotes-fit _ _ (passed (else2 e3)) in
-    let bigs = at-bigs e1 .bigs-of .ensures .1 (e1 .if1 .left) in
-    let few = e4 .if4 .left in
-    let zones = at-overlap .overlap-columns .ensures .1 (rangeOf l) (l .bigs) (bigs .0 .by-way) (bigs .1) .1 few in (
-      (few, n .superiors, n .bigs, fit .0, fit .1),
+rows-by-requires : tie.Need-rows-by-requires
+rows-by-requires c κs =
+    let made = c .before .before .before .before .before .before in
+    let here = known (scanned made) in
+    let own = priced (begun here) in
+    let t = begun here .tables-of .ensures .1 .0 (here .if1 .left) in
+    let s = scanned made .scans-of .ensures .1 _ _ t in
+    let fit = quotes-fit _ _ (quotes-good (start own .args .chart) (quotes own) _ (own .own-number .ensures) (none here)) in
+    let room = made .thirds-of .ensures .0 in (
+      (t .fits, fit .0, fit .1, room .1 .0),
       (
-        (bigs .0 .by-way .long, bigs .0 .by-start .long, bigs .0 .by-end .long, bigs .0 .by-point .long, omega (arith, slice-aggregate-marks-of-10 c, n .bigs)),
-        (
-          (zones .by-owner .long, zones .by-start .long, zones .by-end .long, zones .by-low .long, zones .by-high .long, owners-below _ _ _ _ (zones-own chart) (zones .by-owner)),
-          (l, record { bigs = bigs .0; level = refl; zones = zones; inside = ends-inside l _ (within e3) (fit .2) }),
-        ),
+        levelsOf (start own .args .chart),
+        record {
+          scanned = s;
+          few = room .0;
+          thirds = marked-keys _ _ _ _ _ (made .thirds-of .ensures .1 _ _ t s) (omega (arith, room .0, room .1 .0));
+          inside = ends-inside _ _ (ends-good (start own .args .chart) (quotes own) _ (own .own-number .ensures) (none here)) (fit .2);
+        },
       ),
     )
 
-returns-5 : tie.Need-returns-5
-unfolding levelsOf overlapZones
-returns-5 c =
-    let e4 = c .before .before .before .before .before .before .before .before .before .before .before in
-    let at-overlap = e4 .before .before .before .before .before .before in
-    let e3 = else3 at-overlap in
-    let e1 = first at-overlap in
-    let l = levelsOf (start e1 .args .chart) in
-    let fit = quotes-fit _ _ (passed (else2 e3)) in
-    let bigs = at-bigs e1 .bigs-of .ensures .1 (e1 .if1 .left) in
-    let few = e4 .if4 .left in
-    let zones = at-overlap .overlap-columns .ensures .1 (rangeOf l) (l .bigs) (bigs .0 .by-way) (bigs .1) .1 few in
-    c .marks-of .ensures l (record { bigs = bigs .0; level = refl; zones = zones; inside = ends-inside l _ (within e3) (fit .2) })
-    ∙ n-given _ (quotes e1) (good e1) (passed (else2 e3)) (within e3) (zones-few l (omega (arith, few, column-length (λ (z : Zone). z .«sup_idx») _ _ _ (zones .by-owner))))
+returns-2 : tie.Need-returns-2
+unfolding rows-by-requires
+returns-2 c =
+    let made = c .before .before .before .before .before .before .before .before in
+    let here = known (scanned made) in
+    let own = priced (begun here) in
+    let ready = rows-by-requires (c .before .before) (c .before .rows-by .lifetimes) .1 .1 in
+    c .before .rows-by .ensures _ ready
+    ∙ n-given _ (quotes own) _ (own .own-number .ensures) (sym (here .if1 .left) ∙ begun here .tables-of .ensures .0)
 
 pub bigseg-3n-marks-all-zhongshu-spec : {M : Type 1} → statement M
 bigseg-3n-marks-all-zhongshu-spec =
     tie.close
     (tie.spec
-    slice-aggregate-bigs-of
-    slice-aggregate-bigs-of-2
-    slice-aggregate-bigs-of-3
-    slice-aggregate-bigs-of-4
-    slice-aggregate-bigs-of-5
-    slice-aggregate-bigs-of-6
-    slice-aggregate-bigs-of-7
-    bigs-of-requires
+    cast-own-number
+    own-number-requires
+    tables-of-requires
     refusal-requires
     returns
-    quotes-refusal-requires
-    refusal-requires-2
-    returns-2
-    cast-ends-outside
-    ends-outside-requires
-    refusal-requires-3
-    returns-3
-    cast-m
-    cast-h
-    slice-aggregate-overlap-columns
-    slice-aggregate-overlap-columns-2
-    slice-aggregate-overlap-columns-3
-    slice-aggregate-overlap-columns-4
-    slice-aggregate-overlap-columns-5
-    slice-aggregate-overlap-columns-6
-    slice-aggregate-overlap-columns-7
-    slice-aggregate-overlap-columns-8
-    slice-aggregate-overlap-columns-9
-    slice-aggregate-overlap-columns-10
-    overlap-columns-requires
-    refusal-requires-4
-    returns-4
-    slice-aggregate-marks-of
-    slice-aggregate-marks-of-2
-    slice-aggregate-marks-of-3
-    slice-aggregate-marks-of-4
-    slice-aggregate-marks-of-5
-    slice-aggregate-marks-of-6
-    slice-aggregate-marks-of-7
-    slice-aggregate-marks-of-8
-    slice-aggregate-marks-of-9
-    slice-aggregate-marks-of-10
-    marks-of-requires
-    returns-5)
+    scans-of-requires
+    slice-aggregate-thirds-of
+    thirds-of-requires
+    slice-aggregate-rows-by
+    rows-by-requires
+    returns-2)

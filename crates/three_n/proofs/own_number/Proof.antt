@@ -1,0 +1,54 @@
+-- `three_n::own_number` meets its contract. Assumes nothing.
+use Prim.Native.Nat.{_≤_}
+use native.Mathlib.Omega.{arith}
+use mathlib.Core.Path.{_≡_, sym, ap, _∙_}
+use mathlib.Core.List.{List}
+use lib.ListN.{length}
+use lib.Dec.{leb}
+use borrow.Author.Needs.{needs}
+use Rattle.chart.specs.declared.Stroke.{Stroke}
+use Rattle.rules.specs.Lists.{any}
+use Rattle.three_n.proofs.Refused.{own-quotes, own-ends, own-nothing, strokes-all}
+use Rattle.three_n.proofs.own_number.Statement.{statement}
+use Rattle.three_n.proofs.own_number.Tie as tie
+
+quotes-refusal-requires : tie.Need-quotes-refusal-requires
+quotes-refusal-requires c κs = search needs
+
+returns : tie.Need-returns
+returns c = own-quotes _ _ (c .before .quotes-refusal .ensures) _ (c .if1 .taken)
+
+at-most-requires : tie.Need-at-most-requires
+at-most-requires c κs = search needs
+
+ends-outside-requires : tie.Need-ends-outside-requires
+ends-outside-requires c κs = omega (arith, c .at-most .ensures)
+
+returns-2 : tie.Need-returns-2
+returns-2 c =
+    let ends = c .before in
+    let priced = ends .before .before .before in
+    let args = priced .before .before .before .args in
+    let all = strokes-all (args .n) _ (args .strokes) (search needs) (ends .before .at-most .ensures) in
+    own-ends _ _ (priced .quotes-refusal .ensures) _ (ends .before .before .if1 .left)
+    (ap (any (λ (s : Stroke). leb _ (s .«end_bar»))) (sym all) ∙ sym (ends .ends-outside .ensures) ∙ c .if2 .taken)
+
+returns-3 : tie.Need-returns-3
+returns-3 c =
+    let ends = c .before in
+    let priced = ends .before .before .before in
+    let args = priced .before .before .before .args in
+    let all = strokes-all (args .n) _ (args .strokes) (search needs) (ends .before .at-most .ensures) in
+    own-nothing _ _ (priced .quotes-refusal .ensures) _ (ends .before .before .if1 .left)
+    (ap (any (λ (s : Stroke). leb _ (s .«end_bar»))) (sym all) ∙ sym (ends .ends-outside .ensures) ∙ c .if2 .left)
+
+pub own-number-spec : {M : Type 1} → statement M
+own-number-spec =
+    tie.close
+    (tie.spec
+    quotes-refusal-requires
+    returns
+    at-most-requires
+    ends-outside-requires
+    returns-2
+    returns-3)
