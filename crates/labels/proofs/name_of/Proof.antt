@@ -1,4 +1,5 @@
 -- `labels::name_of` meets its contract: each way through the tests is a law. Assumes nothing.
+use native.Mathlib.Omega.{arith}
 use borrow.Author.Needs.{needs}
 use Rattle.labels.proofs.Steps.{name-first, name-other, name-above, name-below, name-none}
 use Rattle.labels.proofs.name_of.Statement.{statement}
@@ -14,20 +15,24 @@ returns : tie.Need-returns
 returns c = name-first _ _ (c .enum-told .given .1)
 
 returns-2 : tie.Need-returns-2
-returns-2 c = name-other _ _ _ _ (c .before .before .before .before .last .given .1) (c .if1 .taken)
+returns-2 c = name-other _ _ _ _ (c .before .before .before .before .last .given .1) (λ same. omega (arith, same, c .if1 .taken))
 
 returns-3 : tie.Need-returns-3
-returns-3 c = name-above _ _ _ _ (c .before .before .before .before .before .before .before .last .given .1) (c .before .before .before .if1 .left) (c .if2 .taken)
+returns-3 c =
+    let same = c .before .before .before in
+    name-above _ _ _ _ (same .before .before .before .before .last .given .1) (omega (arith, same .if1 .left)) (c .if2 .taken)
 
 returns-4 : tie.Need-returns-4
 returns-4 c =
-    let tests = c .before .before .before in
-    name-below _ _ _ _ (tests .before .before .before .before .before .before .before .last .given .1) (tests .before .before .before .if1 .left) (tests .if2 .left) (c .if3 .taken)
+    let above = c .before .before .before in
+    let same = above .before .before .before in
+    name-below _ _ _ _ (same .before .before .before .before .last .given .1) (omega (arith, same .if1 .left)) (above .if2 .left) (c .if3 .taken)
 
 returns-5 : tie.Need-returns-5
 returns-5 c =
-    let tests = c .before .before .before in
-    name-none _ _ _ _ (tests .before .before .before .before .before .before .before .last .given .1) (tests .before .before .before .if1 .left) (tests .if2 .left) (c .if3 .left)
+    let above = c .before .before .before in
+    let same = above .before .before .before in
+    name-none _ _ _ _ (same .before .before .before .before .last .given .1) (omega (arith, same .if1 .left)) (above .if2 .left) (c .if3 .left)
 
 pub name-of-spec : {M : Type 1} → statement M
 name-of-spec =
