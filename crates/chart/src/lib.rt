@@ -31,11 +31,6 @@ pub enum Range {
     Missing,
 }
 
-// A range in an array: a field may be an array of structs, and not one of enums.
-pub struct Slot {
-    pub range: Range,
-}
-
 // The end point of a big: the end bar and end price of the last stroke of its last segment. (Option<(usize, f64)>)
 pub enum EndPoint {
     At(u16, f64),

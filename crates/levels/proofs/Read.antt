@@ -15,15 +15,13 @@ use Rattle.chart.specs.declared.Stroke.{Stroke}
 use Rattle.chart.specs.declared.Triple.{Triple}
 use Rattle.chart.specs.declared.Range.{Range}
 use Rattle.chart.specs.declared.Range.the-variants.{Missing}
-use Rattle.chart.specs.declared.Slot.{Slot}
 use Rattle.chart.specs.declared.EndPoint.the-variants.{At, Nowhere}
 use Rattle.chart.specs.declared.Chart.{Chart}
-use Rattle.chart.specs.Table.{rangesIn, pointOf}
+use Rattle.chart.specs.Table.{pointOf}
 use Rattle.rules.specs.Lists.{andThen}
 use Rattle.rules.specs.Records.{Levels, levelsOf}
 use Rattle.rules.specs.Ranges.{firstStroke, lastStroke, spanned, rangeOf, endPoint}
 use Rattle.laws.proofs.Arrays.{at-in, at-out}
-use Rattle.laws.proofs.Lists.{map-append}
 use Rattle.levels.specs.Read.{SafeIndex, heldIf, rangeFrom}
 
 -- what an array's place outside holds
@@ -128,27 +126,6 @@ module _ (c : Chart) (m n : ℕ) (b : Triple) (i j p q : ℕ) where
       )
 
 -- ---- the table
-
--- one range more
-pub table-more :
-    (f : Triple → Range) (k : ℕ) (slots : List Slot) (bigs : List Triple) (r : Range) → k < length slots → k < length bigs
-    → rangesIn k slots ≡ map f (take k bigs) → r ≡ f (getD bigs k no-triple)
-    → rangesIn (k + 1) (set slots k (record { range = r })) ≡ map f (take (k + 1) bigs)
-table-more f k slots bigs r hs hb done e =
-    rw (
-      add-one,
-      take-suc-set slots k (record { range = r }) hs,
-      take-suc bigs k no-triple hb,
-      map-append (λ (s : Slot). s .range) (take k slots) (record { range = r } ∷ []),
-      map-append f (take k bigs) (getD bigs k no-triple ∷ []),
-      done,
-      e,
-    )
-
-pub table-all :
-    (f : Triple → Range) (n k : ℕ) (slots : List Slot) (bigs : List Triple) → length slots ≡ 256 → length bigs ≡ 256 → k ≡ min n 256
-    → rangesIn k slots ≡ map f (take k bigs) → rangesIn n slots ≡ map f (take n bigs)
-table-all f n k slots bigs hs hb e done = rw (← clipped n 256 slots hs, ← clipped n 256 bigs hb, ← e) done
 
 -- ---- one way through end_point_of each
 module _ (c : Levels) (i : ℕ) where

@@ -2,13 +2,11 @@
 use chart::Chart;
 use chart::EndPoint;
 use chart::Range;
-use chart::Slot;
 use chart::Span;
 use chart::Stroke;
 use chart::Triple;
 ghost use mathlib.Core.Path.{_≡_};
 ghost use mathlib.Core.Bool.{true, false, _||_};
-ghost use mathlib.Core.List.{map};
 ghost use mathlib.Core.Option.{some};
 ghost use Prim.Native.Nat.{_≤_, _<_, min};
 ghost use lib.Dec.{ltb};
@@ -19,7 +17,7 @@ ghost use Rattle.rules.specs.Ranges.{spanned, rangeOf, endPoint};
 ghost use Rattle.rules.specs.Answer.{rangeAnswer, endPointAnswer};
 ghost use Rattle.rules.specs.Calls.{rangeCall, endPointCall};
 ghost use Rattle.rules.specs.Refusals.{badPrices, wrongStroke, wrongTriple, badChart};
-ghost use Rattle.chart.specs.Table.{rangesIn, pointOf};
+ghost use Rattle.chart.specs.Table.{pointOf};
 ghost use Rattle.levels.specs.Read.{SafeIndex, rangeFrom};
 
 // ---- refusal 21
@@ -208,7 +206,7 @@ pub struct BigRange {
     pub range: Range,
 }
 
-// The range of a big: refused with 21 only. The chart is copied and tested at each call; for all bigs there is ranges_of.
+// The range of a big: refused with 21 only. The chart is copied and tested at each call; for all bigs there is `tables` bigs_of.
 pub fn resolve_bigseg_range(chart: Chart, big: Triple) -> BigRange
     ensures { λ r. ⌜ rangeAnswer (r .number) (r .range) ≡ rangeCall chart big ⌝ }
 {
@@ -222,39 +220,6 @@ pub fn resolve_bigseg_range(chart: Chart, big: Triple) -> BigRange
         number: 0,
         range: range_of(chart, big),
     }
-}
-
-// The ranges of the bigs, in their places.
-pub struct Ranges {
-    pub slots: [Slot; 256],
-}
-
-// The ranges of all bigs, once: a call on the chart for each would copy the chart.
-pub fn ranges_of(chart: Chart) -> Ranges
-    ensures { λ r. ⌜ rangesIn (chart .«big_count») (r .slots) ≡ map (rangeOf (levelsOf chart)) (levelsOf chart .bigs) ⌝ }
-{
-    let segments = at_most(chart.segment_count, 256);
-    let strokes = at_most(chart.stroke_count, 512);
-    let n = at_most(chart.big_count, 256) as usize;
-    let none = Range::Missing;
-    let slot = Slot { range: none };
-    let mut slots = [slot; 256];
-    let mut k = 0usize;
-    while k < n {
-        let b = chart.bigs[k];
-        let i = within(b.first, 256);
-        let j = within(b.last, 256);
-        let a = chart.segments[i];
-        let z = chart.segments[j];
-        let p = within(a.first, 512);
-        let q = within(z.last, 512);
-        let s = chart.strokes[p];
-        let e = chart.strokes[q];
-        let range = range_from(b, a, z, s, e, segments, strokes);
-        slots[k] = Slot { range };
-        k += 1;
-    }
-    Ranges { slots }
 }
 
 // ---- end points

@@ -27,9 +27,9 @@ use Rattle.mark_hits.specs.declared.End.the-variants.{At, Over}
 use Rattle.mark_hits.specs.Found.{hitBar}
 use Rattle.mark_hits.specs.Anchors.{endsIn, EndsBy, NextEnd, LaterEnd}
 use Rattle.mark_hits.proofs.Ends.{keep-yes, keep-no}
-use Rattle.numbering.specs.Rows.{keyOf, barIn, markIn, marksIn, Grown}
-use Rattle.numbering.proofs.Gathered.{key-bar, key-side}
-use Rattle.numbering.proofs.Numbers.{grown-none, grown-then}
+use Rattle.mark_rows.specs.Rows.{keyOf, barIn, markIn, marksIn, Grown}
+use Rattle.mark_rows.proofs.Gathered.{key-bar, key-side}
+use Rattle.mark_rows.proofs.Numbers.{grown-none, grown-then}
 use Rattle.mark_anchors.specs.declared.Aim.{Aim}
 use Rattle.mark_anchors.specs.Anchored.{PushesRow, KeepsRow, KeepsRoom, barsIn, hitMarks, aimMarks, HitRows}
 

@@ -21,8 +21,8 @@ use Rattle.mark_hits.specs.declared.Price.the-variants as price
 use Rattle.mark_hits.specs.declared.Side.{Side}
 use Rattle.mark_hits.specs.declared.Anchor.{Anchor}
 use Rattle.mark_hits.specs.Anchors.{endsIn, priceOf, anchorIn, AnchorAt, AnchorsOf}
-use Rattle.numbering.specs.Rows.{marksIn, Grown}
-use Rattle.numbering.proofs.Numbers.{grown-none, grown-then}
+use Rattle.mark_rows.specs.Rows.{marksIn, Grown}
+use Rattle.mark_rows.proofs.Numbers.{grown-none, grown-then}
 use Rattle.mark_anchors.specs.Anchored.{KeepsRoom, barsIn, hitMarks, HitRows, AnchorRows}
 
 -- ---- what one anchor gives

@@ -18,7 +18,7 @@ use Rattle.tables.specs.Tables.{Bigs, Sups}
 use Rattle.mark_scan.specs.Scan.{Limits}
 use Rattle.mark_hits.specs.declared.Side.{Side}
 use Rattle.mark_hits.specs.Anchors.{endsIn}
-use Rattle.numbering.specs.Rows.{barIn, markIn, marksIn, Room}
+use Rattle.mark_rows.specs.Rows.{barIn, markIn, marksIn, Room}
 use Rattle.mark_anchors.specs.declared.Aim.{Aim}
 
 -- ---- where an anchor's hits stop

@@ -11,7 +11,7 @@ ghost use Prim.Native.Nat.{_≤_, _<_};
 ghost use lib.ListN.{length, take};
 ghost use Rattle.rules.specs.Records.{isUp};
 ghost use Rattle.laws.specs.Lists.{Distinct};
-ghost use Rattle.numbering.specs.Rows.{Grown};
+ghost use Rattle.mark_rows.specs.Rows.{Grown};
 ghost use Rattle.mark_anchors.specs.Anchored.{LimitAt, AnchorLimit, PushesRow, KeepsRow, KeepsRoom, HasRoom, HitRows, AnchorRows};
 
 // ---- where an anchor's hits stop
@@ -79,7 +79,7 @@ fn hit_row(
     ensures { λ r. ⌜ Grown n (now (keys .entry)) (now (orders .entry)) r (now (keys .exit)) (now (orders .exit)) ⌝ }
 {
     let near = places[at];
-    let pushed = numbering::push_near(keys, orders, n, key, order, near);
+    let pushed = mark_rows::push_near(keys, orders, n, key, order, near);
     places[at] = pushed.place;
     pushed.count
 }
@@ -131,7 +131,7 @@ fn hit_rows(
         if !mark_hits::is_hit(hit) {
             continue;
         }
-        let key = numbering::key_of(bar, aim.buy);
+        let key = mark_rows::key_of(bar, aim.buy);
         count = hit_row(key, order, keys, orders, count, places, next - 1);
         order += 1;
     }

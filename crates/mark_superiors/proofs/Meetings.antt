@@ -20,7 +20,7 @@ use Rattle.mark_scan.specs.declared.Pair.{Pair}
 use Rattle.mark_scan.specs.declared.Pair.the-variants.{At, Over}
 use Rattle.mark_scan.specs.declared.Scan.{Scan}
 use Rattle.mark_scan.specs.Scan.{Limits, Later, NextPair, pairsBy}
-use Rattle.numbering.specs.Rows.{Room, Among}
+use Rattle.mark_rows.specs.Rows.{Room, Among}
 use Rattle.mark_superiors.specs.Superiors.{RisingAmong, PutsPairs}
 
 -- ---- bars among the ends of bigs

@@ -21,8 +21,8 @@ use Rattle.levels.proofs.Read.{no-triple}
 use Rattle.tables.specs.declared.Counts.{Counts}
 use Rattle.tables.proofs.Sups.{triple-is}
 use Rattle.mark_scan.specs.Scan.{Scanned}
-use Rattle.numbering.specs.Rows.{rowKey, marksIn, barMarks, Room, Among, Grown, KeepsRoom, NumbersBars}
-use Rattle.numbering.proofs.Numbers.{grown-none, grown-then}
+use Rattle.mark_rows.specs.Rows.{rowKey, marksIn, barMarks, Room, Among, Grown, KeepsRoom, NumbersBars}
+use Rattle.mark_rows.proofs.Numbers.{grown-none, grown-then}
 use Rattle.mark_superiors.specs.Superiors.{TakesBlock, NumbersSuperiors}
 use Rattle.mark_superiors.proofs.Standing.{Standing, standing-first, standing-next, block, bars-own}
 

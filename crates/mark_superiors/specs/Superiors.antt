@@ -16,7 +16,7 @@ use Rattle.tables.specs.declared.Counts.{Counts}
 use Rattle.tables.specs.Tables.{Bigs}
 use Rattle.mark_scan.specs.declared.Scan.{Scan}
 use Rattle.mark_scan.specs.Scan.{Limits, Scanned}
-use Rattle.numbering.specs.Rows.{rowKey, Room, Among, Gathered}
+use Rattle.mark_rows.specs.Rows.{rowKey, Room, Among, Gathered}
 
 -- ---- bars
 

@@ -11,7 +11,7 @@ ghost use Rattle.rules.specs.Records.{Levels};
 ghost use Rattle.laws.specs.Lists.{endBars};
 ghost use Rattle.tables.specs.Tables.{Bigs, Fits};
 ghost use Rattle.mark_scan.specs.Scan.{Scanned};
-ghost use Rattle.numbering.specs.Rows.{Room, Grown};
+ghost use Rattle.mark_rows.specs.Rows.{Room, Grown};
 ghost use Rattle.mark_superiors.specs.Superiors.{RisingAmong, PutsPairs, TakesBlock, NumbersSuperiors, KeepsEnds};
 
 // ---- bars
@@ -39,7 +39,7 @@ fn zone_bars(
         let Pair::At(next, bar) = pair else {
             return count;
         };
-        let put = numbering::insert_bar(out, count, hint, bar as u32);
+        let put = mark_rows::insert_bar(out, count, hint, bar as u32);
         count = put.count;
         hint = put.next;
         at = next;
@@ -111,7 +111,7 @@ pub fn superior_rows(
         let taken = superior_bars(i as u32, scans, counts, at, bars, prices, &mut out);
         at = taken.next;
         let buy = sups[i][0] == 1;
-        count = numbering::number_bars(&out, taken.count, buy, zeros, keys, orders, count);
+        count = mark_rows::number_bars(&out, taken.count, buy, zeros, keys, orders, count);
         i += 1;
     }
     count

@@ -18,8 +18,8 @@ use Rattle.rules.specs.Marks.{addThird}
 use Rattle.laws.proofs.Tests.{none-some, length-snoc}
 use Rattle.laws.proofs.Lists.{at-lt, each-append}
 use Rattle.laws.proofs.Arrays.{left-more, left-none}
-use Rattle.numbering.specs.Rows.{keyOf, barIn, sideIn, rowKey}
-use Rattle.numbering.proofs.Gathered.{key-bar, key-side, key-same}
+use Rattle.mark_rows.specs.Rows.{keyOf, barIn, sideIn, rowKey}
+use Rattle.mark_rows.proofs.Gathered.{key-bar, key-side, key-same}
 use Rattle.mark_hits.specs.declared.Hit.{Hit}
 use Rattle.mark_hits.specs.declared.Hit.the-variants.{At, Nothing}
 use Rattle.mark_thirds.specs.Third.{thirdIn, Marked, OnBar, hitMarks}

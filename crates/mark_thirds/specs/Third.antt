@@ -25,7 +25,7 @@ use Rattle.mark_hits.specs.declared.Hit.the-variants.{At, Nothing}
 use Rattle.mark_hits.specs.Found.{hitBar}
 use Rattle.mark_hits.specs.declared.Side.{Side}
 use Rattle.mark_hits.specs.Anchors.{endsIn}
-use Rattle.numbering.specs.Rows.{barIn, sideIn}
+use Rattle.mark_rows.specs.Rows.{barIn, sideIn}
 use Rattle.mark_thirds.specs.declared.Thirds.{Thirds}
 
 -- ---- marks

@@ -84,7 +84,7 @@ fn put_hit(
     let Hit::At(bar, x) = hit else {
         return count;
     };
-    let key = numbering::key_of(bar as u16, buy);
+    let key = mark_rows::key_of(bar as u16, buy);
     put(keys, marks, count, key, x, p)
 }
 

@@ -7,7 +7,7 @@ use chart::ThirdMark;
 use chart::Triple;
 use chart::Zone;
 use live::Live;
-use numbering::NRows;
+use mark_rows::NRows;
 use third::ThirdRows;
 ghost use Prim.Native.Nat.{_≤_};
 

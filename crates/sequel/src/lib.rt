@@ -1,6 +1,6 @@
 // Demand 3 of one run: a log of calls replayed from a chart with nothing in it, then third and 3+N marks of the chart that it leaves, over the
 // bars of the log.
-use numbering::NRows;
+use mark_rows::NRows;
 use playback::Replayed;
 use third::ThirdRows;
 ghost use Rattle.sequel.specs.After.{After};

@@ -17,7 +17,7 @@ use Rattle.rules.specs.Marks.{side, quote, thirdMarks}
 use Rattle.laws.proofs.Answers.{given-rows}
 use Rattle.laws.proofs.Lists.{lt-at, at-lt, at-getD, all-at}
 use Rattle.laws.proofs.Thirds.{thirds-beyond}
-use Rattle.numbering.specs.Rows.{barIn}
+use Rattle.mark_rows.specs.Rows.{barIn}
 use Rattle.mark_thirds.specs.Third.{thirdIn, Marked}
 
 abbrev pub no-mark : ThirdMark

@@ -9,7 +9,7 @@ ghost use lib.ListN.{length, getD};
 ghost use Rattle.chart.specs.declared.ThirdMark.{ThirdMark};
 ghost use Rattle.rules.specs.Answer.{rowsAnswer, given, refused};
 ghost use Rattle.rules.specs.Calls.{thirdCall};
-ghost use Rattle.numbering.specs.Rows.{barIn};
+ghost use Rattle.mark_rows.specs.Rows.{barIn};
 ghost use Rattle.mark_thirds.specs.Third.{groundOf, thirdIn, Marked};
 
 // The answer of the third-mark call: a number, and where it is 0 the first `count` rows. The rows stand first: behind the numbers they

@@ -23,9 +23,9 @@ use Rattle.laws.proofs.Lists.{All, nil, cons, all-of, all-map, all-image, all-c
 use Rattle.laws.proofs.Thirds.{thirds-beyond, thirds-distinct}
 use Rattle.laws.specs.Lists.{endBars}
 use Rattle.laws.proofs.Room.{AtEnd, thirds-end}
-use Rattle.numbering.specs.Rows.{rowKey, marksIn, Room}
-use Rattle.numbering.proofs.Gathered.{room-thirds}
-use Rattle.numbering.proofs.Filled.{zero-mark}
+use Rattle.mark_rows.specs.Rows.{rowKey, marksIn, Room}
+use Rattle.mark_rows.proofs.Gathered.{room-thirds}
+use Rattle.mark_rows.proofs.Filled.{zero-mark}
 use Rattle.tables.specs.Tables.{Bigs}
 use Rattle.mark_hits.specs.declared.Side.{Side}
 use Rattle.mark_hits.specs.Anchors.{Anchoring}

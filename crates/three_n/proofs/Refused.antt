@@ -1,14 +1,12 @@
 -- The 3+N call on a chart, by the number that it begins with: refused, or given its marks. Assumes nothing.
-use Prim.Native.Nat.{ℕ, min}
+use Prim.Native.Nat.{ℕ}
 use native.Mathlib.Omega.{arith}
 use mathlib.Core.Path.{_≡_, refl, sym, _∙_}
 use mathlib.Core.Bool.{Bool, true, false, cond}
 use mathlib.Core.List.{List}
-use lib.ListN.{length, take}
-use lib.Seq.{take-all}
-use lib.Dec.{eqb, leb}
-use borrow.Author.Tests.{eq-eqb, ne-eqb, leb-true, leb-false}
-use Rattle.chart.specs.declared.Stroke.{Stroke}
+use lib.ListN.{take}
+use lib.Dec.{eqb}
+use borrow.Author.Tests.{eq-eqb, ne-eqb}
 use Rattle.chart.specs.declared.Chart.{Chart}
 use Rattle.chart.specs.declared.NMark.{NMark}
 use Rattle.rules.specs.Answer.{given, refused, answered}
@@ -79,13 +77,3 @@ module _ (q : Quotes) (n : ℕ) (is : n ≡ quotesRefusal q 0) where
   pub own-nothing : (t : Bool) → n ≡ 0 → t ≡ false → 0 ≡ quotesRefusal q (refuse t 9 0)
   unfolding refuse
   own-nothing t none e = rw e (own-rest 0 none)
-
--- a count above all strokes counts as all
-pub strokes-all : (n m : ℕ) (strokes : List Stroke) → length strokes ≡ 512 → m ≡ min n 512 → take m strokes ≡ take n strokes
-strokes-all n m strokes long e = go (leb n 512) refl
-  where
-    go : (t : Bool) → leb n 512 ≡ t → take m strokes ≡ take n strokes
-    go true h = let same : m ≡ n = omega (arith, e, leb-true n 512 h) in rw same
-    go false h =
-        let far = leb-false n 512 h in
-        take-all m strokes (omega (arith, e, far)) ∙ sym (take-all n strokes (omega (arith, far)))

@@ -15,8 +15,8 @@ use Rattle.laws.specs.Lists.{All, endBars}
 use Rattle.tables.specs.declared.Counts.{Counts}
 use Rattle.mark_scan.specs.Scan.{Scanned}
 use Rattle.mark_hits.specs.Found.{quotesRefusal}
-use Rattle.numbering.specs.declared.NRows.{NRows}
-use Rattle.numbering.specs.Rows.{rowKey}
+use Rattle.mark_rows.specs.declared.NRows.{NRows}
+use Rattle.mark_rows.specs.Rows.{rowKey}
 
 -- 8; 1; 9 where one of these strokes ends outside the slices
 abbrev pub ownNumber : List Stroke → Quotes → ℕ

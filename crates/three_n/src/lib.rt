@@ -2,7 +2,7 @@
 use chart::Chart;
 use chart::NMark;
 use chart::Stroke;
-use numbering::NRows;
+use mark_rows::NRows;
 use tables::Counts;
 ghost use mathlib.Core.Path.{_≡_};
 ghost use Prim.Native.Nat.{_≤_, _<_};
@@ -110,7 +110,7 @@ fn rows_by(
         keys,
         &mut orders,
     );
-    numbering::rows_of(keys, &orders, all, highs, lows)
+    mark_rows::rows_of(keys, &orders, all, highs, lows)
 }
 
 // ---- the call

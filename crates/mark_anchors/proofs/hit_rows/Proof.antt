@@ -4,7 +4,7 @@ use Prim.Native.Nat.{_-_, _<_, _≤_}
 use native.Mathlib.Omega.{arith}
 use borrow.Author.Needs.{needs}
 use borrow.Author.Tests.{not-true, not-false}
-use Rattle.numbering.proofs.Gathered.{room-512}
+use Rattle.mark_rows.proofs.Gathered.{room-512}
 use Rattle.mark_anchors.proofs.Numbers.{later-is, Hitting, hitting-first, hitting-all, hitting-over, hitting-stopped, hitting-missed, hitting-more}
 use Rattle.mark_anchors.proofs.hit_rows.Statement.{statement}
 use Rattle.mark_anchors.proofs.hit_rows.Tie as tie

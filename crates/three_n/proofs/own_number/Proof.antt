@@ -1,14 +1,14 @@
 -- `three_n::own_number` meets its contract. Assumes nothing.
-use Prim.Native.Nat.{_≤_}
+use Prim.Native.Nat.{ℕ}
 use native.Mathlib.Omega.{arith}
 use mathlib.Core.Path.{_≡_, sym, ap, _∙_}
-use mathlib.Core.List.{List}
-use lib.ListN.{length}
+use lib.ListN.{take}
 use lib.Dec.{leb}
 use borrow.Author.Needs.{needs}
 use Rattle.chart.specs.declared.Stroke.{Stroke}
 use Rattle.rules.specs.Lists.{any}
-use Rattle.three_n.proofs.Refused.{own-quotes, own-ends, own-nothing, strokes-all}
+use Rattle.levels.proofs.Read.{clipped}
+use Rattle.three_n.proofs.Refused.{own-quotes, own-ends, own-nothing}
 use Rattle.three_n.proofs.own_number.Statement.{statement}
 use Rattle.three_n.proofs.own_number.Tie as tie
 
@@ -29,7 +29,7 @@ returns-2 c =
     let ends = c .before in
     let priced = ends .before .before .before in
     let args = priced .before .before .before .args in
-    let all = strokes-all (args .n) _ (args .strokes) (search needs) (ends .before .at-most .ensures) in
+    let all = ap (λ (k : ℕ). take k (args .strokes)) (ends .before .at-most .ensures) ∙ clipped (args .n) 512 (args .strokes) (search needs) in
     own-ends _ _ (priced .quotes-refusal .ensures) _ (ends .before .before .if1 .left)
     (ap (any (λ (s : Stroke). leb _ (s .«end_bar»))) (sym all) ∙ sym (ends .ends-outside .ensures) ∙ c .if2 .taken)
 
@@ -38,7 +38,7 @@ returns-3 c =
     let ends = c .before in
     let priced = ends .before .before .before in
     let args = priced .before .before .before .args in
-    let all = strokes-all (args .n) _ (args .strokes) (search needs) (ends .before .at-most .ensures) in
+    let all = ap (λ (k : ℕ). take k (args .strokes)) (ends .before .at-most .ensures) ∙ clipped (args .n) 512 (args .strokes) (search needs) in
     own-nothing _ _ (priced .quotes-refusal .ensures) _ (ends .before .before .if1 .left)
     (ap (any (λ (s : Stroke). leb _ (s .«end_bar»))) (sym all) ∙ sym (ends .ends-outside .ensures) ∙ c .if2 .left)
 

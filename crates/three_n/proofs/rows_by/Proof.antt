@@ -4,8 +4,8 @@ use mathlib.Core.Path.{refl, ap, _∙_}
 use borrow.Author.Needs.{needs}
 use Rattle.rules.specs.Answer.{given}
 use Rattle.laws.specs.Lists.{endBars}
-use Rattle.numbering.specs.Rows.{Room}
-use Rattle.numbering.proofs.Gathered.{room-512, room-bars}
+use Rattle.mark_rows.specs.Rows.{Room}
+use Rattle.mark_rows.proofs.Gathered.{room-512, room-bars}
 use Rattle.three_n.proofs.Parts.{bigs-by, thirds-room, zero-marks, marks-are}
 use Rattle.three_n.proofs.rows_by.Statement.{statement}
 use Rattle.three_n.proofs.rows_by.Tie as tie
