@@ -56,8 +56,8 @@ unfolding wrongStroke
 right-stroke s way prices = rw (le-ltb 1 (s .direction) way, prices)
 
 -- p is a test of its prices that only prices pass
-pub right-at-a-glance : (s : Stroke) (p : Bool) → (p ≡ true → badPrices s ≡ false) → (leb (s .direction) 1 && p) ≡ true → wrongStroke s ≡ false
-right-at-a-glance s p prices h =
+pub right-by-test : (s : Stroke) (p : Bool) → (p ≡ true → badPrices s ≡ false) → (leb (s .direction) 1 && p) ≡ true → wrongStroke s ≡ false
+right-by-test s p prices h =
     let two = both (leb (s .direction) 1) p h in
     right-stroke s (leb→le _ _ (subst T (sym (two .0)) tt)) (prices (two .1))
 

@@ -35,14 +35,14 @@ fn wrong_stroke(s: Stroke) -> bool
     true
 }
 
-// Whether the prices of a stroke are right at a glance, by their product. It has no branch, so that a loop tests several strokes at a time.
+// Whether the product of a stroke's prices shows that both are prices. It has no branch, so that a loop tests several strokes at a time.
 pub fn plain_prices(s: Stroke) -> bool
     ensures { λ r. ⌜ (r ≡ true → badPrices s ≡ false) ⌝ }
 {
     price::plain_product(s.start_price, s.end_price)
 }
 
-// Whether a stroke is right at a glance.
+// Whether its direction and the product of its prices show that a stroke is right.
 fn plain_stroke(s: Stroke) -> bool
     ensures { λ r. ⌜ (r ≡ true → wrongStroke s ≡ false) ⌝ }
 {
@@ -80,7 +80,7 @@ pub fn overfull(strokes: u16, segments: u16, bigs: u16, superiors: u16) -> bool
     256 < superiors
 }
 
-// Refusal 21 of a loaded chart. The strokes are tested where they lie, and one after the other only where a glance does not do.
+// Refusal 21 of a loaded chart. The strokes are tested where they lie, and one after the other only where the quick test does not show it.
 pub fn bad_chart(chart: Chart) -> bool
     ensures { λ r. ⌜ r ≡ badChart chart ⌝ }
 {

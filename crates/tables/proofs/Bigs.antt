@@ -2,11 +2,10 @@
 use Prim.Native.Nat.{ℕ, _+_, _≤_, _<_}
 use native.Mathlib.Omega.{arith}
 use native.Mathlib.Numerals.{add-one}
-use mathlib.Core.Path.{_≡_, refl, sym, ap, _∙_}
-use mathlib.Core.List.{List, [], _∷_, _++_, map, map-map}
+use mathlib.Core.Path.{_≡_, ap, _∙_}
+use mathlib.Core.List.{List, [], _∷_, map, map-map}
 use lib.ListN.{length, take, getD, set}
 use lib.Seq.{take-suc, length-take-le}
-use lib.Dec.{eqb}
 use lib.Ieee.{Float, nan}
 use borrow.Author.Tests.{eq-eqb, ne-eqb, lt-ltb, le-ltb}
 use Rattle.chart.specs.declared.Stroke.{Stroke}
@@ -23,8 +22,8 @@ use Rattle.rules.specs.Ranges.{rangeOf, lastStroke}
 use Rattle.laws.proofs.Lists.{map-append}
 use Rattle.levels.proofs.Read.{no-triple, no-stroke, reached}
 use Rattle.tables.specs.Read.{lastFrom}
-use Rattle.tables.specs.Rows.{Wide, rowsIn, Puts}
-use Rattle.tables.specs.Tables.{Big, bigOf, rangeIn, pointIn, bigIn, Bigs, Member, memberIn, memberOf, Members, pointIf, PutsBig}
+use Rattle.tables.specs.Rows.{Wide, rowsIn}
+use Rattle.tables.specs.Tables.{Big, bigOf, rangeIn, pointIn, bigIn, Bigs, Ranged, rangedIn, rangedOf, Members, pointIf, PutsBig}
 use Rattle.tables.proofs.Rows.{puts, rows-map, row-is}
 
 -- ---- what is read
@@ -123,23 +122,23 @@ module _
     (range : Triple → Range) (level : List Triple) (m : ℕ) (bars : List (List ℕ)) (prices : List (List Float))
     (t : Members range level m bars prices) (k : ℕ) (h : k < m)
   where
-    member-at : memberIn (getD bars k []) (getD prices k []) ≡ memberOf range (getD level k no-triple)
-    member-at = row-is memberIn (memberOf range) m bars prices [] [] level no-triple (t .count) (t .are) k h
+    member-at : rangedIn (getD bars k []) (getD prices k []) ≡ rangedOf range (getD level k no-triple)
+    member-at = row-is rangedIn (rangedOf range) m bars prices [] [] level no-triple (t .count) (t .are) k h
 
     pub member-way : getD (getD bars k []) 0 0 ≡ getD level k no-triple .direction
-    unfolding memberIn memberOf
-    member-way = ap (λ (b : Member). b .way) member-at
+    unfolding rangedIn rangedOf
+    member-way = ap (λ (b : Ranged). b .way) member-at
 
     pub member-range : rangeIn (getD bars k []) (getD prices k []) ≡ range (getD level k no-triple)
-    unfolding memberIn memberOf
-    member-range = ap (λ (b : Member). b .range) member-at
+    unfolding rangedIn rangedOf
+    member-range = ap (λ (b : Ranged). b .range) member-at
 
 -- what they say of big k
 module _ (c : Levels) (m : ℕ) (bars : List (List ℕ)) (prices : List (List Float)) (t : Bigs c m bars prices) where
   pub bigs-members : Members (rangeOf c) (c .bigs) m bars prices
-  unfolding bigIn bigOf memberIn memberOf
+  unfolding bigIn bigOf rangedIn rangedOf
   bigs-members =
-      let less : Big → Member = λ b. record { way = b .way; range = b .range } in
+      let less : Big → Ranged = λ b. record { way = b .way; range = b .range } in
       record { count = t .count; are = rows-map bigIn less m bars prices ∙ ap (map less) (t .are) ∙ map-map less (bigOf c) (c .bigs) }
 
   module _ (k : ℕ) (h : k < m) where

@@ -3,15 +3,14 @@ use Prim.Native.Nat.{ℕ, _+_, _≤_, _<_}
 use native.Mathlib.Omega.{arith}
 use native.Mathlib.Numerals.{add-one}
 use mathlib.Core.Path.{_≡_, refl, sym, ap, _∙_}
-use mathlib.Core.List.{List, [], _∷_, _++_, map, map-id, map-map}
+use mathlib.Core.List.{List, [], _∷_, map, map-id, map-map}
 use mathlib.Core.Option.{Option, none, some}
-use lib.ListN.{length, take, getD, getElem?, set, length-map}
+use lib.ListN.{length, take, getD, set, length-map}
 use lib.Seq.{take-all, take-suc, take-suc-set, length-take-le, getD-take}
 use lib.Ieee.{Float}
 use borrow.Author.Tests.{le-leb, lt-leb}
 use Rattle.chart.specs.declared.Stroke.{Stroke}
 use Rattle.chart.specs.declared.Triple.{Triple}
-use Rattle.chart.specs.declared.EndPoint.{EndPoint}
 use Rattle.chart.specs.declared.EndPoint.the-variants.{At, Nowhere}
 use Rattle.chart.specs.Table.{pointOf}
 use Rattle.rules.specs.Records.{Levels}

@@ -1,7 +1,7 @@
 -- The rows of zones. Assumes nothing.
 use Prim.Native.Nat.{ℕ, _<_}
 use mathlib.Core.Path.{_≡_, ap, _∙_, sym}
-use mathlib.Core.List.{List, [], map, map-id}
+use mathlib.Core.List.{List, [], map-id}
 use lib.ListN.{getD}
 use lib.Ieee.{Float, nan}
 use Rattle.chart.specs.declared.Zone.{Zone}

@@ -51,22 +51,22 @@ pub record Bigs (c : Levels) (m : ℕ) (bars : List (List ℕ)) (prices : List (
   pub count : length (c .bigs) ≡ m
   pub are : rowsIn bigIn m bars prices ≡ map (bigOf c) (c .bigs)
 
--- What the overlap rule asks of a record of a level: its direction and range. So a level of any kind can stand in the tables, and the bigs
+-- What the overlap rule asks of a record of a level: its direction and its range. So a level of any kind can stand in the tables, and the bigs
 -- with their ranges are one
-pub record Member : Type 0 where
+pub record Ranged : Type 0 where
   pub way : ℕ
   pub range : Range
 
-unfoldable pub memberIn : List ℕ → List Float → Member
-memberIn row prices = record { way = getD row 0 0; range = rangeIn row prices }
+unfoldable pub rangedIn : List ℕ → List Float → Ranged
+rangedIn row prices = record { way = getD row 0 0; range = rangeIn row prices }
 
-unfoldable pub memberOf : (Triple → Range) → Triple → Member
-memberOf range b = record { way = b .direction; range = range b }
+unfoldable pub rangedOf : (Triple → Range) → Triple → Ranged
+rangedOf range b = record { way = b .direction; range = range b }
 
 -- the first m rows are the records of this level, with these ranges
 pub record Members (range : Triple → Range) (level : List Triple) (m : ℕ) (bars : List (List ℕ)) (prices : List (List Float)) : Type 0 where
   pub count : length level ≡ m
-  pub are : rowsIn memberIn m bars prices ≡ map (memberOf range) level
+  pub are : rowsIn rangedIn m bars prices ≡ map (rangedOf range) level
 
 -- the end point at a stroke, where it is there
 unfoldable pub pointIf : ℕ → Stroke → EndPoint

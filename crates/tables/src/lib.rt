@@ -22,7 +22,7 @@ ghost use Rattle.rules.specs.Records.{Levels, levelsOf};
 ghost use Rattle.rules.specs.Refusals.{badChart};
 ghost use Rattle.tables.specs.Read.{lastFrom};
 ghost use Rattle.tables.specs.Rows.{Wide, Puts};
-ghost use Rattle.tables.specs.Tables.{bigIn, rangeIn, pointIn, pointIf, Bigs, PutsBig, supOf, supIn, FillsSups, zoneIn};
+ghost use Rattle.tables.specs.Tables.{rangeIn, pointIn, pointIf, Bigs, PutsBig, supOf, supIn, FillsSups, zoneIn};
 
 // How many rows of the tables of a chart count: bigs, superiors, zones.
 pub struct Counts {

@@ -11,7 +11,7 @@ ghost use lib.Dec.{leb};
 ghost use Rattle.chart.specs.declared.Stroke.{Stroke};
 ghost use Rattle.rules.specs.Answer.{rowsAnswer, refused};
 ghost use Rattle.rules.specs.Lists.{any};
-ghost use Rattle.rules.specs.Records.{Levels, Quotes};
+ghost use Rattle.rules.specs.Records.{Levels};
 ghost use Rattle.rules.specs.Calls.{nCall};
 ghost use Rattle.tables.specs.Tables.{Fits};
 ghost use Rattle.three_n.specs.Gather.{Ready, GivesMarks, ownNumber};

@@ -44,10 +44,10 @@ more : (c : tie.In-loop Inv-loop μ-loop Inv-loop2 μ-loop2) → c .before .loop
 more c = omega (arith, c .loop-test .taken)
 
 -- the first loop, where the second stands
-abbrev glance : tie.At-loop2 Inv-loop μ-loop Inv-loop2 μ-loop2 → tie.At-loop Inv-loop μ-loop Inv-loop2 μ-loop2
-glance c = c .before .before .before
+abbrev first-loop : tie.At-loop2 Inv-loop μ-loop Inv-loop2 μ-loop2 → tie.At-loop Inv-loop μ-loop Inv-loop2 μ-loop2
+first-loop c = c .before .before .before
 
-more-2 : (c : tie.In-loop2 Inv-loop μ-loop Inv-loop2 μ-loop2) → c .before .loop2 .i < start (glance (c .before)) .args .t1 .«stroke_count»
+more-2 : (c : tie.In-loop2 Inv-loop μ-loop Inv-loop2 μ-loop2) → c .before .loop2 .i < start (first-loop (c .before)) .args .t1 .«stroke_count»
 more-2 c = omega (arith, c .loop2-test .taken)
 
 overfull-requires : tie.Need-overfull-requires Inv-loop μ-loop Inv-loop2 μ-loop2
@@ -142,7 +142,7 @@ returns-6 : tie.Need-returns-6 Inv-loop μ-loop Inv-loop2 μ-loop2
 returns-6 c =
     let in-loop = c .before .before .before in
     let head = in-loop .before in
-    sym (any-here wrongStroke _ (head .loop2 .i) _ (long (glance head)) no-stroke (more-2 in-loop)
+    sym (any-here wrongStroke _ (head .loop2 .i) _ (long (first-loop head)) no-stroke (more-2 in-loop)
     (sym (c .before .wrong-stroke .ensures) ∙ c .if6 .taken)) ∙ head .loop2 .inv .2
 
 add-i : tie.Need-add-i Inv-loop μ-loop Inv-loop2 μ-loop2
@@ -157,14 +157,14 @@ loop2-again c =
     let head = in-loop .before in (
       omega arith,
       head .loop2 .inv .1,
-      sym (any-later wrongStroke _ (head .loop2 .i) _ (long (glance head)) no-stroke (more-2 in-loop)
+      sym (any-later wrongStroke _ (head .loop2 .i) _ (long (first-loop head)) no-stroke (more-2 in-loop)
           (sym (c .before .wrong-stroke .ensures) ∙ c .if6 .left)) ∙ head .loop2 .inv .2,
     )
 
 returns-7 : tie.Need-returns-7 Inv-loop μ-loop Inv-loop2 μ-loop2
 returns-7 c =
     let head = c .before in
-    sym (any-none wrongStroke _ (head .loop2 .i) _ (long (glance head)) (c .loop2-test .left)) ∙ head .loop2 .inv .2
+    sym (any-none wrongStroke _ (head .loop2 .i) _ (long (first-loop head)) (c .loop2-test .left)) ∙ head .loop2 .inv .2
 
 pub bad-chart-spec : {M : Type 1} → statement M
 bad-chart-spec =

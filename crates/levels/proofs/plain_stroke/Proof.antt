@@ -1,6 +1,6 @@
 -- `levels::plain_stroke` meets its contract. Assumes nothing.
 use borrow.Author.Needs.{needs}
-use Rattle.levels.proofs.Tests.{right-at-a-glance}
+use Rattle.levels.proofs.Tests.{right-by-test}
 use Rattle.levels.proofs.plain_stroke.Statement.{statement}
 use Rattle.levels.proofs.plain_stroke.Tie as tie
 
@@ -8,7 +8,7 @@ plain-prices-requires : tie.Need-plain-prices-requires
 plain-prices-requires c κs = search needs
 
 returns : tie.Need-returns
-returns c = right-at-a-glance _ _ (c .plain-prices .ensures)
+returns c = right-by-test _ _ (c .plain-prices .ensures)
 
 pub plain-stroke-spec : {M : Type 1} → statement M
 plain-stroke-spec = tie.close (tie.spec plain-prices-requires returns)

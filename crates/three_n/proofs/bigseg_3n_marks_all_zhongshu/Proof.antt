@@ -7,7 +7,6 @@ use Rattle.zones.proofs.Call.{own-none}
 use Rattle.mark_scan.proofs.Scans.{tables-owners}
 use Rattle.mark_hits.proofs.Quotes.{quotes-fit}
 use Rattle.mark_thirds.proofs.Marked.{marked-keys}
-use Rattle.three_n.specs.Gather.{Ready}
 use Rattle.three_n.proofs.Parts.{ends-inside}
 use Rattle.three_n.proofs.Refused.{n-refused, n-given, quotes-good, ends-good}
 use Rattle.three_n.proofs.bigseg_3n_marks_all_zhongshu.Statement.{statement}

@@ -1,5 +1,5 @@
 -- `three_n::ends_outside` meets its contract. The invariant: what is left of the strokes has the answer of all. Assumes nothing.
-use Prim.Native.Nat.{_≤_, _<_, _-_}
+use Prim.Native.Nat.{_≤_, _-_}
 use native.Mathlib.Omega.{arith}
 use mathlib.Core.Path.{_≡_, refl, sym, _∙_}
 use lib.ListN.{length, take, drop}
@@ -8,7 +8,6 @@ use borrow.Author.Tests.{le-leb, lt-leb}
 use borrow.Author.Needs.{needs}
 use Rattle.chart.specs.declared.Stroke.{Stroke}
 use Rattle.rules.specs.Lists.{any}
-use Rattle.laws.proofs.Arrays.{length-via}
 use Rattle.levels.proofs.Tests.{any-here, any-later, any-none}
 use Rattle.levels.proofs.Read.{no-stroke}
 use Rattle.three_n.proofs.ends_outside.Statement.{statement}

@@ -1,6 +1,6 @@
 -- `three_n::rows_by` meets its contract. Assumes nothing.
 use native.Mathlib.Omega.{arith}
-use mathlib.Core.Path.{refl, ap, _∙_}
+use mathlib.Core.Path.{ap, _∙_}
 use borrow.Author.Needs.{needs}
 use Rattle.rules.specs.Answer.{given}
 use Rattle.laws.specs.Lists.{endBars}
