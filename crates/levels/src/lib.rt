@@ -49,19 +49,20 @@ fn plain_stroke(s: Stroke) -> bool
     (s.direction <= 1) & plain_prices(s)
 }
 
-// Whether one of the first n triples has a direction above 1.
+// Whether one of the first n triples has a direction above 1. Every one is looked at, with no test that ends the loop, so that several can be
+// taken at once.
 pub fn wrong_triples(triples: [Triple; 256], n: u16) -> bool
     requires { ⌜ n ≤ 256 ⌝ }
     ensures { λ r. ⌜ r ≡ any wrongTriple (take n triples) ⌝ }
 {
+    let mut wrong = false;
     let mut i = 0u16;
     while i < n {
-        if 1 < triples[i as usize].direction {
-            return true;
-        }
+        let t = triples[i as usize];
+        wrong = wrong | (1 < t.direction);
         i += 1;
     }
-    false
+    wrong
 }
 
 // Whether a level's count is above its size.

@@ -4,9 +4,11 @@ use native.Mathlib.Omega.{arith}
 use native.Mathlib.Numerals.{add-one}
 use mathlib.Core.Path.{_≡_, refl, sym, ap, _∙_}
 use mathlib.Core.List.{List, [], _∷_, map, map-id, map-map}
+use mathlib.Core.Bool.{Bool, true, false, cond}
 use mathlib.Core.Option.{Option, none, some}
 use lib.ListN.{length, take, getD, set, length-map}
 use lib.Seq.{take-all, take-suc, take-suc-set, length-take-le, getD-take}
+use lib.Dec.{eqb}
 use lib.Ieee.{Float}
 use borrow.Author.Tests.{le-leb, lt-leb}
 use Rattle.chart.specs.declared.Stroke.{Stroke}
@@ -33,6 +35,10 @@ bar-of : (o : Option Stroke) (b : ℕ) (x : Float) → pointOf o ≡ At b x → 
 bar-of none b x e = cc
 bar-of (some s) b x e = let same : s .«end_bar» ≡ b = cc in rw same
 
+end-by : (o : Option Stroke) (no : Bool) (b : ℕ) (x : Float) → cond no Nowhere (At b x) ≡ pointOf o → cond no none (some b) ≡ barOf o
+end-by o true b x e = sym (end-of o (sym e))
+end-by o false b x e = sym (bar-of o b x (sym e))
+
 module _ (c : Levels) (s : Triple) where
   pub row-reversed : (x : ℕ) → s .last < s .first → supIn (s .direction ∷ s .first ∷ s .last ∷ 0 ∷ x ∷ []) ≡ supOf c s
   unfolding supIn supOf endIn superiorEnd
@@ -53,13 +59,11 @@ module _ (c : Levels) (s : Triple) where
           let there = lt-at (c .bigs) (s .last) (omega (arith, t .count)) in
           rw (le-leb _ _ right, there .1, at-getD (c .bigs) (s .last) no-triple (there .0) (there .1))
 
-      pub row-no-end : (x : ℕ) → pointIn (getD bars (s .last) []) (getD prices (s .last) []) ≡ Nowhere → supIn (s .direction ∷ s .first ∷ s .last ∷ 0 ∷ x ∷ []) ≡ supOf c s
-      unfolding supIn supOf endIn
-      row-no-end x e = rw (found, end-of (lastStroke c big) (sym (point-is c m bars prices t (s .last) inside) ∙ e))
-
-      pub row-end : (b : ℕ) (x : Float) → pointIn (getD bars (s .last) []) (getD prices (s .last) []) ≡ At b x → supIn (s .direction ∷ s .first ∷ s .last ∷ 1 ∷ b ∷ []) ≡ supOf c s
-      unfolding supIn supOf endIn
-      row-end b x e = rw (found, bar-of (lastStroke c big) b x (sym (point-is c m bars prices t (s .last) inside) ∙ e))
+      -- it ends where the big does, if that has an end point
+      pub row-there : supIn (s .direction ∷ s .first ∷ s .last ∷ getD (getD bars (s .last) []) 4 0 ∷ getD (getD bars (s .last) []) 5 0 ∷ []) ≡ supOf c s
+      unfolding supIn supOf endIn pointIn
+      row-there =
+          rw (found, end-by (lastStroke c big) (eqb (getD (getD bars (s .last) []) 4 0) 0) _ _ (point-is c m bars prices t (s .last) inside))
 
 -- ---- all rows
 

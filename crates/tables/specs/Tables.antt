@@ -111,10 +111,14 @@ pub record Sups (c : Levels) (n : ℕ) (sups : List (List ℕ)) : Type 0 where
   pub count : length (c .superiors) ≡ n
   pub are : map supIn (take n sups) ≡ map (supOf c) (c .superiors)
 
--- the rows of levels with these superiors, whose bigs are in two tables
-abbrev pub FillsSups : ℕ → List Triple → ℕ → List (List ℕ) → List (List Float) → List (List ℕ) → Type 0
-FillsSups n superiors m bars prices sups =
-    (c : Levels) → Bigs c m bars prices → take n superiors ≡ c .superiors → Sups c n sups
+-- the row of a superior over the m bigs in a table
+abbrev pub SupRow : Triple → ℕ → List (List ℕ) → List ℕ → Type 0
+SupRow s m bars row = (c : Levels) (prices : List (List Float)) → Bigs c m bars prices → supIn row ≡ supOf c s
+
+-- the rows of levels with these superiors, whose m bigs are in a table
+abbrev pub FillsSups : ℕ → List Triple → ℕ → List (List ℕ) → List (List ℕ) → Type 0
+FillsSups n superiors m bars sups =
+    (c : Levels) (prices : List (List Float)) → Bigs c m bars prices → take n superiors ≡ c .superiors → Sups c n sups
 
 -- ---- zones
 

@@ -22,7 +22,7 @@ ghost use Rattle.rules.specs.Records.{Levels, levelsOf};
 ghost use Rattle.rules.specs.Refusals.{badChart};
 ghost use Rattle.tables.specs.Read.{lastFrom};
 ghost use Rattle.tables.specs.Rows.{Wide, Puts};
-ghost use Rattle.tables.specs.Tables.{rangeIn, pointIn, pointIf, Bigs, PutsBig, supOf, supIn, FillsSups, zoneIn};
+ghost use Rattle.tables.specs.Tables.{rangeIn, pointIn, pointIf, Bigs, PutsBig, SupRow, FillsSups, zoneIn};
 
 // How many rows of the tables of a chart count: bigs, superiors, zones.
 pub struct Counts {
@@ -182,10 +182,10 @@ pub fn bigs_of(chart: Chart, bars: &mut [[u16; 6]; 256], prices: &mut [[f64; 3];
 
 // ---- superiors
 
-// The row of a superior over m bigs: its end bar is there where first ≤ last and the big at last has an end point.
-fn superior_row(s: Triple, bars: &[[u16; 6]; 256], prices: &[[f64; 3]; 256], m: usize) -> [u16; 5]
+// The row of a superior over m bigs: where first ≤ last and last is a big, it ends where that big does, if it has an end point.
+fn superior_row(s: Triple, bars: &[[u16; 6]; 256], m: usize) -> [u16; 5]
     requires { ⌜ m ≤ 256 ⌝ }
-    ensures { λ r. ⌜ ((c : Levels) → Bigs c m (now (bars .entry)) (now (prices .entry)) → supIn r ≡ supOf c s) ⌝ }
+    ensures { λ r. ⌜ SupRow s m (now (bars .entry)) r ⌝ }
 {
     let way = s.direction as u16;
     if s.last < s.first {
@@ -195,10 +195,7 @@ fn superior_row(s: Triple, bars: &[[u16; 6]; 256], prices: &[[f64; 3]; 256], m: 
     if m <= i {
         return [way, s.first, s.last, 0, 0];
     }
-    let EndPoint::At(bar, price) = point_at(bars, prices, i) else {
-        return [way, s.first, s.last, 0, 0];
-    };
-    [way, s.first, s.last, 1, bar]
+    [way, s.first, s.last, bars[i][4], bars[i][5]]
 }
 
 // The table of the first n superiors over m bigs.
@@ -206,17 +203,16 @@ pub fn superiors_of(
     superiors: [Triple; 256],
     n: usize,
     bars: &[[u16; 6]; 256],
-    prices: &[[f64; 3]; 256],
     m: usize,
     sups: &mut [[u16; 5]; 256],
 )
     requires { ⌜ (n ≤ 256) × (m ≤ 256) × (length (now sups) ≡ 256) ⌝ }
-    ensures { λ _. ⌜ FillsSups n superiors m (now (bars .entry)) (now (prices .entry)) (now (sups .exit)) ⌝ }
+    ensures { λ _. ⌜ FillsSups n superiors m (now (bars .entry)) (now (sups .exit)) ⌝ }
 {
     let mut k = 0usize;
     while k < n {
         let s = superiors[k];
-        sups[k] = superior_row(s, bars, prices, m);
+        sups[k] = superior_row(s, bars, m);
         k += 1;
     }
 }

@@ -244,7 +244,7 @@ pub fn tables_of(
     let superiors = chart.superiors;
     let n = chart.superior_count as usize;
     let m = chart.big_count as usize;
-    tables::superiors_of(superiors, n, bars, prices, m, sups);
+    tables::superiors_of(superiors, n, bars, m, sups);
     let count = overlap(sups, n, bars, prices, m, zb, zp);
     if 256 < count {
         return no_tables(11);

@@ -20,7 +20,7 @@ abbrev else1 : tie.Else2 → tie.Else1
 else1 c = c .before
 
 abbrev else2 : tie.After-superiors-of → tie.Else2
-else2 c = c .before .before .before .before .before .before .before
+else2 c = c .before .before .before .before .before .before
 
 abbrev listed : tie.After-overlap → tie.After-superiors-of
 listed c = c .before .before .before .before .before .before
@@ -38,9 +38,9 @@ bigs c = c .before .bigs-of .ensures .1 (c .if1 .left)
 
 superiors :
     (c : tie.After-superiors-of)
-    → Sups (levelsOf (start (else1 (else2 c)) .args .chart)) (start (else1 (else2 c)) .args .chart .«superior_count») (c .superiors-of .last .1 .1 .1 .1 .1 .0)
+    → Sups (levelsOf (start (else1 (else2 c)) .args .chart)) (start (else1 (else2 c)) .args .chart .«superior_count») (c .superiors-of .last .1 .1 .1 .1 .0)
 unfolding levelsOf
-superiors c = c .superiors-of .ensures _ (bigs (else1 (else2 c))) refl
+superiors c = c .superiors-of .ensures _ _ (bigs (else1 (else2 c))) refl
 
 zones :
     (c : tie.After-overlap)
@@ -77,7 +77,7 @@ cast-m c = search needs
 
 superiors-of-requires : tie.Need-superiors-of-requires
 superiors-of-requires c κs =
-    let known = else1 (c .before .before .before .before .before .before) in
+    let known = else1 (c .before .before .before .before .before) in
     let fits = counted _ (good known) in
     (fits .superiors, fits .bigs, start known .pre .2)
 
