@@ -82,7 +82,8 @@ fn rows_by(
     keys: &mut [u32],
 ) -> NRows
     requires { ⌜ Fits counts × (length (now highs) ≤ 0x1_0000) × (length (now lows) ≤ 0x1_0000) × (length (now keys) ≡ 513) ⌝ }
-    requires { ⌜ ((c : Levels) × Ready c (record { highs = now highs; lows = now lows }) counts (now bars) (now prices) (now sups) (now scans) zeros (now keys)) ⌝ }
+    requires { ⌜ ((c : Levels) × Ready c (record { highs = now highs; lows = now lows }) counts (now bars) (now prices)
+        (now sups) (now scans) zeros (now keys)) ⌝ }
     ensures { λ r. ⌜ GivesMarks (record { highs = now (highs .entry); lows = now (lows .entry) }) counts (now (bars .entry)) (now (prices .entry))
         (now (sups .entry)) (now (scans .entry)) zeros (now (keys .entry)) r ⌝ }
 {
