@@ -189,19 +189,6 @@ pub struct Side {
     pub buy: bool,
 }
 
-fn wide(x: u16) -> usize
-    ensures { λ r. ⌜ r ≡ x ⌝ }
-{
-    x as usize
-}
-
-// The smaller of two.
-fn at_most(n: usize, m: usize) -> usize
-    ensures { λ r. ⌜ r ≡ min n m ⌝ }
-{
-    if n < m { n } else { m }
-}
-
 // By the first superior: the bigs before its first, and its direction.
 pub fn side_of(sups: &[[u16; 5]; 256], counts: Counts) -> Side
     ensures { λ r. ⌜ (r .bigs ≡ counts .bigs) × (r .anchors ≤ r .bigs) ⌝ }
@@ -216,7 +203,7 @@ pub fn side_of(sups: &[[u16; 5]; 256], counts: Counts) -> Side
     }
     Side {
         bigs: counts.bigs,
-        anchors: at_most(wide(sups[0][1]), counts.bigs),
+        anchors: tables::at_most(tables::wide(sups[0][1]), counts.bigs),
         buy: is_way(sups[0][0], true),
     }
 }
@@ -239,7 +226,7 @@ pub fn anchor_at(anchors: &[[u16; 3]; 256], cs: &[f64; 256], i: usize) -> Anchor
     ensures { λ r. ⌜ r ≡ anchorIn (getD (now (anchors .entry)) i []) (getD (now (cs .entry)) i nan) ⌝ }
 {
     let bar = anchors[i][0];
-    let from = wide(anchors[i][1]);
+    let from = tables::wide(anchors[i][1]);
     if anchors[i][2] == 0 {
         return Anchor {
             bar,

@@ -15,13 +15,6 @@ ghost use Rattle.mark_scan.specs.Scan.{ScanOf, ScannedTo, SearchFrom, Sc
 
 // ---- where it starts
 
-// The smaller of two.
-fn at_most(n: usize, m: usize) -> usize
-    ensures { λ r. ⌜ r ≡ min n m ⌝ }
-{
-    if n < m { n } else { m }
-}
-
 // The place of the first big from `first` to `last` that starts at bar e or later, and one past the last where there is none; m where
 // that is behind all m bigs. A big whose range is missing is passed over.
 fn start_of(
@@ -36,7 +29,7 @@ fn start_of(
     ensures { λ r. ⌜ r ≤ m ⌝ }
     ensures { λ r. ⌜ StartsAt m (now (bars .entry)) (now (prices .entry)) first last e r ⌝ }
 {
-    let end = at_most(last + 1, m);
+    let end = tables::at_most(last + 1, m);
     let mut k = first;
     while k < end {
         let i = k;
@@ -48,7 +41,7 @@ fn start_of(
             return i;
         }
     }
-    at_most(k, m)
+    tables::at_most(k, m)
 }
 
 // ---- what stops it
@@ -201,13 +194,6 @@ fn smaller_limit(a: u32, b: u32) -> u32
     if a < b { a } else { b }
 }
 
-// A number of a table as a place.
-fn wide(x: u16) -> usize
-    ensures { λ r. ⌜ (r ≡ x) × (r < 0x1_0000) ⌝ }
-{
-    x as usize
-}
-
 // Where the search for a scan's start begins: at the superior's first big, or where the scan of the zone before starts, if that is of the
 // same superior and ends no later.
 fn search_from(zb: &[[u16; 5]; 256], scans: &[[u32; 4]; 256], at: usize, first: usize) -> usize
@@ -245,18 +231,18 @@ fn scan_of(
     requires { ⌜ ScannedTo counts (now bars) (now prices) (now sups) (now zb) (now scans) at ⌝ }
     ensures { λ r. ⌜ ScanOf counts (now (bars .entry)) (now (prices .entry)) (now (sups .entry)) (now (zb .entry)) at r ⌝ }
 {
-    let owner = wide(zb[at][0]);
+    let owner = tables::wide(zb[at][0]);
     let e = zb[at][2];
     let way = sups[owner][0];
-    let first = wide(sups[owner][1]);
-    let last = wide(sups[owner][2]);
+    let first = tables::wide(sups[owner][1]);
+    let last = tables::wide(sups[owner][2]);
     let begin = search_from(zb, scans, at, first);
     let from = start_of(bars, prices, counts.bigs, begin, last, e);
     let near = zone_limit(zb, counts.zones, rise, at);
     let turn = reversal(sups, counts.superiors, owner + 1, way, e);
     [
         owner as u32,
-        wide(way) as u32,
+        tables::wide(way) as u32,
         from as u32,
         smaller_limit(near, turn),
     ]

@@ -40,7 +40,7 @@ index-2-if1 c = search needs
 returns : tie.Need-returns
 returns c =
     let start = c .before .before .before .before .before in
-    row-nowhere (getD (start .args .anchors .now) (start .args .i) []) (getD (start .args .cs .now) (start .args .i) nan) _ (c .before .before .wide .ensures)
+    row-nowhere (getD (start .args .anchors .now) (start .args .i) []) (getD (start .args .cs .now) (start .args .i) nan) _ (c .before .before .wide .ensures .0)
     (c .if1 .taken)
 
 mul-t6 : tie.Need-mul-t6
@@ -53,7 +53,7 @@ returns-2 : tie.Need-returns-2
 returns-2 c =
     let start = c .before .before .before .before .before .before in
     row-priced (getD (start .args .anchors .now) (start .args .i) []) (getD (start .args .cs .now) (start .args .i) nan) _
-    (c .before .before .before .wide .ensures) (c .before .if1 .left)
+    (c .before .before .before .wide .ensures .0) (c .before .if1 .left)
 
 pub anchor-at-spec : {M : Type 1} → statement M
 anchor-at-spec =
