@@ -20,10 +20,11 @@ use Rattle.mark_scan.specs.Scan.{Limits}
 use Rattle.mark_hits.specs.declared.Price.the-variants as price
 use Rattle.mark_hits.specs.declared.Side.{Side}
 use Rattle.mark_hits.specs.declared.Anchor.{Anchor}
-use Rattle.mark_hits.specs.Anchors.{endsIn, priceOf, anchorIn, AnchorAt, AnchorsOf}
-use Rattle.mark_rows.specs.Rows.{marksIn, Grown}
+use Rattle.mark_hits.specs.Anchors.{barsIn, anchorsIn, priceOf, anchorIn, AnchorAt, AnchorsOf}
+use Rattle.mark_hits.proofs.Anchors.{bars-behind}
+use Rattle.mark_rows.specs.Rows.{marksIn, Grown, KeepsEnds}
 use Rattle.mark_rows.proofs.Numbers.{grown-none, grown-then}
-use Rattle.mark_anchors.specs.Anchored.{KeepsRoom, barsIn, hitMarks, HitRows, AnchorRows}
+use Rattle.mark_anchors.specs.Anchored.{numberedHits, HitRows, AnchorRows}
 
 -- ---- what one anchor gives
 
@@ -32,28 +33,19 @@ module _ (c : Levels) (q : Quotes) (buy : Bool) (a : Stroke) (x : Anchor) (is : 
   unfolding anchorNumbered
   numbers-nowhere e = rw (anchorNumbered, is .price ∙ ap priceOf e)
 
-  bars-behind : anchorBars c buy a ≡ barsIn c buy (x .bar) (drop (x .from) (c .bigs))
-  unfolding anchorBars
-  bars-behind =
-      ap (map (λ (s : Stroke). s .«end_bar»))
-      (is .behind (not buy) ∙ ap (λ (b : ℕ). endsIn c (not buy) b (drop (x .from) (c .bigs))) (is .bar))
-
   numbers-at :
       (p : Float) → x .price ≡ price.At p
-      → anchorNumbered c q buy a ≡ hitMarks q buy p (reaches (anchorStop c buy)) 0 (barsIn c buy (x .bar) (drop (x .from) (c .bigs)))
+      → anchorNumbered c q buy a ≡ numberedHits q buy p (reaches (anchorStop c buy)) 0 (barsIn c buy (x .bar) (drop (x .from) (c .bigs)))
   unfolding anchorNumbered
   numbers-at p e =
-      let opened : anchorNumbered c q buy a ≡ hitMarks q buy p (reaches (anchorStop c buy)) 0 (anchorBars c buy a) =
+      let opened : anchorNumbered c q buy a ≡ numberedHits q buy p (reaches (anchorStop c buy)) 0 (anchorBars c buy a) =
       rw (anchorNumbered, is .price ∙ ap priceOf e) in
-      opened ∙ ap (hitMarks q buy p (reaches (anchorStop c buy)) 0) bars-behind
+      opened ∙ ap (numberedHits q buy p (reaches (anchorStop c buy)) 0) (bars-behind c buy a x is)
 
 -- ---- all anchors
 
-abbrev anchorsIn : Levels → Side → List Stroke
-anchorsIn c s = collect (lastStroke c) (take (s .anchors) (c .bigs))
-
 -- of the anchors, which have rows, those before place i are looked at, with rows from n to count
-pub record Anchoring
+pub record AnchorsSoFar
     (bars : List (List ℕ)) (prices : List (List Float)) (q : Quotes) (s : Side) (limit n : ℕ) (keys₀ orders₀ : List ℕ)
     (rows : List (List ℕ)) (cs : List Float) (found : ℕ) (keys orders : List ℕ) (count i : ℕ)
     : Type 0
@@ -62,7 +54,7 @@ pub record Anchoring
     pub few : found ≤ s .anchors
     pub table : AnchorsOf s bars prices found rows cs
     pub grown : Grown n keys₀ orders₀ count keys orders
-    pub room : KeepsRoom (s .bigs) bars prices n keys₀ count keys
+    pub room : KeepsEnds (λ (c : Levels). Bigs c (s .bigs) bars prices) keys₀ n keys count
     pub marks :
         (c : Levels) → Bigs c (s .bigs) bars prices → Limits limit (reaches (anchorStop c (s .buy)))
         → foldl push3N (marksIn q (take count keys) (take count orders)) (each (anchorNumbered c q (s .buy)) (drop i (anchorsIn c s)))
@@ -72,16 +64,16 @@ module _
     (bars : List (List ℕ)) (prices : List (List Float)) (q : Quotes) (s : Side) (limit n : ℕ) (keys₀ orders₀ : List ℕ)
     (rows : List (List ℕ)) (cs : List Float) (found : ℕ)
   where
-    pub anchoring-first :
-        found ≤ s .anchors → AnchorsOf s bars prices found rows cs → Anchoring bars prices q s limit n keys₀ orders₀ rows cs found keys₀ orders₀ n 0
-    anchoring-first few table =
+    pub anchors-first :
+        found ≤ s .anchors → AnchorsOf s bars prices found rows cs → AnchorsSoFar bars prices q s limit n keys₀ orders₀ rows cs found keys₀ orders₀ n 0
+    anchors-first few table =
         record { within = omega arith; few = few; table = table; grown = grown-none n keys₀ orders₀; room = λ c t r. r; marks = λ c t l. refl }
 
     module _
-        (keys orders : List ℕ) (count i : ℕ) (so-far : Anchoring bars prices q s limit n keys₀ orders₀ rows cs found keys orders count i)
+        (keys orders : List ℕ) (count i : ℕ) (so-far : AnchorsSoFar bars prices q s limit n keys₀ orders₀ rows cs found keys orders count i)
       where
-        pub anchoring-all : found ≤ i → AnchorRows bars prices q s limit n keys₀ orders₀ count keys orders
-        anchoring-all h c t l =
+        pub anchors-all : found ≤ i → AnchorRows bars prices q s limit n keys₀ orders₀ count keys orders
+        anchors-all h c t l =
             rw (drop-of-length-le (anchorsIn c s) {i = i} (omega (arith, so-far .table c t .count, h))) at (so-far .marks c t l)
 
         module _ (h : i < found) (x : Anchor) (is : x ≡ anchorIn (getD rows i []) (getD cs i nan)) where
@@ -101,9 +93,9 @@ module _
               )
 
           -- an anchor without a price C
-          pub anchoring-nowhere :
-              x .price ≡ price.Nowhere → Anchoring bars prices q s limit n keys₀ orders₀ rows cs found keys orders count (i + 1)
-          anchoring-nowhere e =
+          pub anchors-nowhere :
+              x .price ≡ price.Nowhere → AnchorsSoFar bars prices q s limit n keys₀ orders₀ rows cs found keys orders count (i + 1)
+          anchors-nowhere e =
               record {
                 within = omega arith;
                 few = so-far .few;
@@ -118,12 +110,12 @@ module _
               }
 
           -- one whose hits are pushed
-          pub anchoring-at :
+          pub anchors-at :
               (p : Float) → x .price ≡ price.At p → (count' : ℕ) (keys' orders' : List ℕ)
               → HitRows bars prices q (record { bigs = s .bigs; from = x .from; price = p; limit = limit; bar = x .bar; buy = s .buy }) count keys orders count' keys' orders'
-              → KeepsRoom (s .bigs) bars prices count keys count' keys' → Grown count keys orders count' keys' orders'
-              → Anchoring bars prices q s limit n keys₀ orders₀ rows cs found keys' orders' count' (i + 1)
-          anchoring-at p e count' keys' orders' marks room grown =
+              → KeepsEnds (λ (c : Levels). Bigs c (s .bigs) bars prices) keys count keys' count' → Grown count keys orders count' keys' orders'
+              → AnchorsSoFar bars prices q s limit n keys₀ orders₀ rows cs found keys' orders' count' (i + 1)
+          anchors-at p e count' keys' orders' marks room grown =
               record {
                 within = omega arith;
                 few = so-far .few;

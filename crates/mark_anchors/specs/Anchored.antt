@@ -17,9 +17,9 @@ use Rattle.tables.specs.declared.Counts.{Counts}
 use Rattle.tables.specs.Tables.{Bigs, Sups}
 use Rattle.mark_scan.specs.Scan.{Limits}
 use Rattle.mark_hits.specs.declared.Side.{Side}
-use Rattle.mark_hits.specs.Anchors.{endsIn}
-use Rattle.mark_rows.specs.Rows.{barIn, markIn, marksIn, Room}
-use Rattle.mark_anchors.specs.declared.Aim.{Aim}
+use Rattle.mark_hits.specs.Anchors.{barsIn, anchorsIn}
+use Rattle.mark_rows.specs.Rows.{Room, Gathered}
+use Rattle.mark_anchors.specs.declared.AnchorHits.{AnchorHits}
 
 -- ---- where an anchor's hits stop
 
@@ -34,45 +34,24 @@ AnchorLimit n bars prices sups buy r =
 
 -- ---- rows
 
--- from n rows to r, these marks are pushed one after the other
-abbrev pub Pushes : Quotes → List NMark → ℕ → List ℕ → List ℕ → ℕ → List ℕ → List ℕ → Type 0
-Pushes q ms n keys orders r keys' orders' =
-    marksIn q (take r keys') (take r orders') ≡ foldl push3N (marksIn q (take n keys) (take n orders)) ms
-
--- one row of this key and order is pushed
-abbrev pub PushesRow : ℕ → ℕ → ℕ → List ℕ → List ℕ → ℕ → List ℕ → List ℕ → Type 0
-PushesRow key order n keys orders r keys' orders' = (q : Quotes) → Pushes q (markIn q key order ∷ []) n keys orders r keys' orders'
-
--- the room for rows is kept where a key's bar is among the ends
-abbrev pub KeepsRow : ℕ → ℕ → List ℕ → ℕ → List ℕ → Type 0
-KeepsRow key n keys r keys' = (ends : List ℕ) → Room ends keys n → List·Memᴰ (barIn key) ends → Room ends keys' r
-
--- the room for rows at the ends of bigs that are in two tables is kept
-abbrev pub KeepsRoom : ℕ → List (List ℕ) → List (List Float) → ℕ → List ℕ → ℕ → List ℕ → Type 0
-KeepsRoom m bars prices n keys r keys' = (c : Levels) → Bigs c m bars prices → Room (endBars c) keys n → Room (endBars c) keys' r
-
 -- there is room for rows at the ends of the bigs
 abbrev pub HasRoom : ℕ → List (List ℕ) → List (List Float) → ℕ → List ℕ → Type 0
 HasRoom m bars prices n keys = (c : Levels) × Bigs c m bars prices × Room (endBars c) keys n
 
 -- ---- the hits of one anchor
 
--- the end bars of those of some bigs that a hit may have: not of the side's direction, and behind a bar
-abbrev pub barsIn : Levels → Bool → ℕ → List Triple → List ℕ
-barsIn c buy bar bs = map (λ (s : Stroke). s .«end_bar») (endsIn c (not buy) bar bs)
-
 -- the marks of the hits among some bars before a stop, numbered from `order` on
-abbrev pub hitMarks : Quotes → Bool → Float → (ℕ → Bool) → ℕ → List ℕ → List NMark
-hitMarks q buy p stop order bars = numbered q buy order (keep (beats q buy p) (before stop bars))
+abbrev pub numberedHits : Quotes → Bool → Float → (ℕ → Bool) → ℕ → List ℕ → List NMark
+numberedHits q buy p stop order bars = numbered q buy order (keep (beats q buy p) (before stop bars))
 
--- the marks of what is aimed at
-abbrev pub aimMarks : Levels → Quotes → Aim → (ℕ → Bool) → List NMark
-aimMarks c q a stop = hitMarks q (a .buy) (a .price) stop 0 (barsIn c (a .buy) (a .bar) (drop (a .from) (c .bigs)))
+-- the marks of all hits of an anchor
+abbrev pub allHits : Levels → Quotes → AnchorHits → (ℕ → Bool) → List NMark
+allHits c q a stop = numberedHits q (a .buy) (a .price) stop 0 (barsIn c (a .buy) (a .bar) (drop (a .from) (c .bigs)))
 
-abbrev pub HitRows : List (List ℕ) → List (List Float) → Quotes → Aim → ℕ → List ℕ → List ℕ → ℕ → List ℕ → List ℕ → Type 0
+abbrev pub HitRows : List (List ℕ) → List (List Float) → Quotes → AnchorHits → ℕ → List ℕ → List ℕ → ℕ → List ℕ → List ℕ → Type 0
 HitRows bars prices q a n keys orders r keys' orders' =
     (c : Levels) (stop : ℕ → Bool) → Bigs c (a .bigs) bars prices → Limits (a .limit) stop
-    → Pushes q (aimMarks c q a stop) n keys orders r keys' orders'
+    → Gathered q (allHits c q a stop) n keys orders r keys' orders'
 
 -- ---- all anchors
 
@@ -81,4 +60,4 @@ abbrev pub AnchorRows :
     List (List ℕ) → List (List Float) → Quotes → Side → ℕ → ℕ → List ℕ → List ℕ → ℕ → List ℕ → List ℕ → Type 0
 AnchorRows bars prices q s limit n keys orders r keys' orders' =
     (c : Levels) → Bigs c (s .bigs) bars prices → Limits limit (reaches (anchorStop c (s .buy)))
-    → Pushes q (each (anchorNumbered c q (s .buy)) (collect (lastStroke c) (take (s .anchors) (c .bigs)))) n keys orders r keys' orders'
+    → Gathered q (each (anchorNumbered c q (s .buy)) (anchorsIn c s)) n keys orders r keys' orders'

@@ -7,12 +7,14 @@ use mark_hits::Side;
 use tables::Counts;
 ghost use mathlib.Core.Path.{_≡_};
 ghost use mathlib.Core.Bool.{not, Bool·beq};
+ghost use mathlib.Core.List.{List·Memᴰ};
 ghost use Prim.Native.Nat.{_≤_, _<_};
 ghost use lib.ListN.{length, take};
-ghost use Rattle.rules.specs.Records.{isUp};
+ghost use Rattle.rules.specs.Records.{isUp, Levels};
 ghost use Rattle.laws.specs.Lists.{Distinct};
-ghost use Rattle.mark_rows.specs.Rows.{Grown};
-ghost use Rattle.mark_anchors.specs.Anchored.{LimitAt, AnchorLimit, PushesRow, KeepsRow, KeepsRoom, HasRoom, HitRows, AnchorRows};
+ghost use Rattle.tables.specs.Tables.{Bigs};
+ghost use Rattle.mark_rows.specs.Rows.{barIn, Grown, Pushes, KeepsRoom, KeepsEnds};
+ghost use Rattle.mark_anchors.specs.Anchored.{LimitAt, AnchorLimit, HasRoom, HitRows, AnchorRows};
 
 // ---- where an anchor's hits stop
 
@@ -74,8 +76,8 @@ fn hit_row(
     at: usize,
 ) -> usize
     requires { ⌜ (at < 256) × (n ≤ 512) × (513 ≤ length (now keys)) × (513 ≤ length (now orders)) × Distinct (take n (now keys)) ⌝ }
-    ensures { λ r. ⌜ PushesRow key order n (now (keys .entry)) (now (orders .entry)) r (now (keys .exit)) (now (orders .exit)) ⌝ }
-    ensures { λ r. ⌜ KeepsRow key n (now (keys .entry)) r (now (keys .exit)) ⌝ }
+    ensures { λ r. ⌜ Pushes key order n (now (keys .entry)) (now (orders .entry)) r (now (keys .exit)) (now (orders .exit)) ⌝ }
+    ensures { λ r. ⌜ KeepsRoom (List·Memᴰ (barIn key)) (now (keys .entry)) n (now (keys .exit)) r ⌝ }
     ensures { λ r. ⌜ Grown n (now (keys .entry)) (now (orders .entry)) r (now (keys .exit)) (now (orders .exit)) ⌝ }
 {
     let near = places[at];
@@ -86,7 +88,7 @@ fn hit_row(
 
 // What the hits of an anchor are looked for by: the number of bigs, the side, the anchor's end bar, a place before which no big ends behind
 // that, the price C, and the limit.
-struct Aim {
+struct AnchorHits {
     bigs: usize,
     from: usize,
     price: f64,
@@ -99,7 +101,7 @@ struct Aim {
 fn hit_rows(
     bars: &[[u16; 6]; 256],
     prices: &[[f64; 3]; 256],
-    aim: Aim,
+    hits: AnchorHits,
     highs: &[f64],
     lows: &[f64],
     keys: &mut [u32],
@@ -107,31 +109,31 @@ fn hit_rows(
     n: usize,
     places: &mut [usize; 256],
 ) -> usize
-    requires { ⌜ (aim .bigs ≤ 256) × (513 ≤ length (now keys)) × (513 ≤ length (now orders)) ⌝ }
-    requires { ⌜ HasRoom (aim .bigs) (now bars) (now prices) n (now keys) ⌝ }
-    ensures { λ r. ⌜ HitRows (now (bars .entry)) (now (prices .entry)) (record { highs = now (highs .entry); lows = now (lows .entry) }) aim n
+    requires { ⌜ (hits .bigs ≤ 256) × (513 ≤ length (now keys)) × (513 ≤ length (now orders)) ⌝ }
+    requires { ⌜ HasRoom (hits .bigs) (now bars) (now prices) n (now keys) ⌝ }
+    ensures { λ r. ⌜ HitRows (now (bars .entry)) (now (prices .entry)) (record { highs = now (highs .entry); lows = now (lows .entry) }) hits n
         (now (keys .entry)) (now (orders .entry)) r (now (keys .exit)) (now (orders .exit)) ⌝ }
-    ensures { λ r. ⌜ KeepsRoom (aim .bigs) (now (bars .entry)) (now (prices .entry)) n (now (keys .entry)) r (now (keys .exit)) ⌝ }
+    ensures { λ r. ⌜ KeepsEnds (λ (c : Levels). Bigs c (hits .bigs) (now (bars .entry)) (now (prices .entry))) (now (keys .entry)) n (now (keys .exit)) r ⌝ }
     ensures { λ r. ⌜ Grown n (now (keys .entry)) (now (orders .entry)) r (now (keys .exit)) (now (orders .exit)) ⌝ }
 {
-    let m = aim.bigs;
+    let m = hits.bigs;
     let mut order = 0u32;
     let mut count = n;
-    let mut k = aim.from;
+    let mut k = hits.from;
     while k < m {
-        let end = mark_hits::next_end(bars, prices, m, !aim.buy, aim.bar, k);
+        let end = mark_hits::next_end(bars, prices, m, !hits.buy, hits.bar, k);
         let End::At(next, bar, _) = end else {
             return count;
         };
-        if mark_scan::reached(aim.limit, bar) {
+        if mark_scan::reached(hits.limit, bar) {
             return count;
         }
         k = next;
-        let hit = mark_hits::hit_at(highs, lows, aim.buy, aim.price, bar as usize);
+        let hit = mark_hits::hit_at(highs, lows, hits.buy, hits.price, bar as usize);
         if !mark_hits::is_hit(hit) {
             continue;
         }
-        let key = mark_rows::key_of(bar, aim.buy);
+        let key = mark_rows::key_of(bar, hits.buy);
         count = hit_row(key, order, keys, orders, count, places, next - 1);
         order += 1;
     }
@@ -156,7 +158,7 @@ pub fn anchor_rows(
     requires { ⌜ HasRoom (side .bigs) (now bars) (now prices) n (now keys) ⌝ }
     ensures { λ r. ⌜ AnchorRows (now (bars .entry)) (now (prices .entry)) (record { highs = now (highs .entry); lows = now (lows .entry) }) side limit n
         (now (keys .entry)) (now (orders .entry)) r (now (keys .exit)) (now (orders .exit)) ⌝ }
-    ensures { λ r. ⌜ KeepsRoom (side .bigs) (now (bars .entry)) (now (prices .entry)) n (now (keys .entry)) r (now (keys .exit)) ⌝ }
+    ensures { λ r. ⌜ KeepsEnds (λ (c : Levels). Bigs c (side .bigs) (now (bars .entry)) (now (prices .entry))) (now (keys .entry)) n (now (keys .exit)) r ⌝ }
     ensures { λ r. ⌜ Grown n (now (keys .entry)) (now (orders .entry)) r (now (keys .exit)) (now (orders .exit)) ⌝ }
 {
     let mut anchors = [[0u16; 3]; 256];
@@ -172,7 +174,7 @@ pub fn anchor_rows(
         let Price::At(p) = price else {
             continue;
         };
-        let aim = Aim {
+        let hits = AnchorHits {
             bigs: side.bigs,
             from: anchor.from,
             price: p,
@@ -183,7 +185,7 @@ pub fn anchor_rows(
         count = hit_rows(
             bars,
             prices,
-            aim,
+            hits,
             highs,
             lows,
             keys,

@@ -3,8 +3,8 @@ use Prim.Native.Nat.{ℕ, zero, suc, _+_, _<_, _≤_, min}
 use native.Mathlib.Omega.{arith}
 use native.Mathlib.Numerals.{add-one}
 use mathlib.Core.Path.{_≡_, refl, sym, ap, subst, _∙_}
-use mathlib.Core.Bool.{Bool, true, false, Bool·beq, true≢false}
-use mathlib.Core.List.{List, [], _∷_, _++_, append-nil}
+use mathlib.Core.Bool.{Bool, true, false, not, Bool·beq, true≢false}
+use mathlib.Core.List.{List, [], _∷_, _++_, map, append-nil}
 use mathlib.Core.Option.{Option, none, some}
 use mathlib.Core.Logic.{_⊎_, inl, inr}
 use lib.ListN.{length, take, drop, getD, getElem?, set}
@@ -18,7 +18,7 @@ use Rattle.chart.specs.declared.EndPoint.the-variants as point
 use Rattle.rules.specs.Lists.{keep, collect}
 use Rattle.rules.specs.Records.{isUp, Levels}
 use Rattle.rules.specs.Ranges.{lastStroke}
-use Rattle.rules.specs.Marks.{anchorsOf, anchorSide, endsAfter, anchorPrice}
+use Rattle.rules.specs.Marks.{anchorsOf, anchorSide, anchorBars, endsAfter, anchorPrice}
 use Rattle.laws.proofs.Tests.{length-snoc, none-some}
 use Rattle.levels.proofs.Read.{no-triple}
 use Rattle.tables.specs.declared.Counts.{Counts}
@@ -30,8 +30,9 @@ use Rattle.mark_hits.specs.declared.End.{End}
 use Rattle.mark_hits.specs.declared.End.the-variants.{At, Over}
 use Rattle.mark_hits.specs.declared.Price.the-variants as price
 use Rattle.mark_hits.specs.declared.Side.{Side}
-use Rattle.mark_hits.specs.Anchors.{endsIn, EndsBy, NoneBefore, FirstBehind, Anchoring, anchorIn, AnchorAt, Anchors, PutsAnchor, AnchorsOf, NextEnd}
-use Rattle.mark_hits.proofs.Ends.{keep-yes, keep-no, collect-some, collect-none, ends-nowhere, ends-soon, no-point, point-stroke}
+use Rattle.mark_hits.specs.declared.Anchor.{Anchor}
+use Rattle.mark_hits.specs.Anchors.{endsIn, EndsBy, NextEnd, NoneBefore, FirstBehind, barsIn, Anchoring, anchorIn, AnchorAt, Anchors, PutsAnchor, AnchorsOf}
+use Rattle.mark_hits.proofs.Ends.{keep-yes, keep-no, collect-some, collect-none, ends-over, ends-nowhere, ends-soon, no-point, point-stroke}
 
 -- ---- a place before which no big ends behind a bar
 
@@ -84,6 +85,28 @@ module _
         (bar : ℕ) (x : Float) → pointIn (getD bars k []) (getD prices k []) ≡ point.At bar x → ltb after bar ≡ false
         → FirstBehind m bars prices last place after (k + 1)
     behind-soon bar x e l c t h up = ends-soon m bars prices up after k c t (endsAfter c up after) (so-far c t h up) more bar x e l
+
+-- ---- the end bars that a hit behind an anchor may have
+
+-- of the bigs from place k on
+module _ (c : Levels) (buy : Bool) (after k : ℕ) where
+  pub bars-none : (m : ℕ) (bars : List (List ℕ)) (prices : List (List Float)) → Bigs c m bars prices → m ≤ k → barsIn c buy after (drop k (c .bigs)) ≡ []
+  bars-none m bars prices t h = ap (map (λ (s : Stroke). s .«end_bar»)) (ends-over m bars prices (not buy) after k c t _ refl h)
+
+  module _ (end : End) (ends : EndsBy c (not buy) after k end) where
+    pub bars-over : end ≡ Over → barsIn c buy after (drop k (c .bigs)) ≡ []
+    bars-over e = ap (map (λ (s : Stroke). s .«end_bar»)) (subst (EndsBy c (not buy) after k) e ends)
+
+    pub bars-next :
+        (next bar : ℕ) (x : Float) → end ≡ At next bar x → barsIn c buy after (drop k (c .bigs)) ≡ bar ∷ barsIn c buy after (drop next (c .bigs))
+    bars-next next bar x e =
+        let there = subst (EndsBy c (not buy) after k) e ends in
+        rw (← there .1) (ap (map (λ (s : Stroke). s .«end_bar»)) (there .3))
+
+-- behind an anchor, by its row
+pub bars-behind : (c : Levels) (buy : Bool) (a : Stroke) (x : Anchor) → AnchorAt c buy a x → anchorBars c buy a ≡ barsIn c buy (x .bar) (drop (x .from) (c .bigs))
+unfolding anchorBars
+bars-behind c buy a x is = rw (is .behind (not buy), is .bar)
 
 -- ---- the side
 
@@ -160,7 +183,7 @@ some-inj : {A : Type 0} {x y : A} → some x ≡ some y → x ≡ y
 some-inj e = cc
 
 -- the last element of a list, or one before it
-snoc-at : {A : Type 0} (l : List A) (x y : A) (i : ℕ) → getElem? (l ++ x ∷ []) i ≡ some y → ((getElem? l i ≡ some y) × (i < length l)) ⊎ ((i ≡ length l) × (x ≡ y))
+pub snoc-at : {A : Type 0} (l : List A) (x y : A) (i : ℕ) → getElem? (l ++ x ∷ []) i ≡ some y → ((getElem? l i ≡ some y) × (i < length l)) ⊎ ((i ≡ length l) × (x ≡ y))
 snoc-at [] x y zero e = inr (refl, some-inj e)
 snoc-at [] x y (suc i) e = absurd (none-some e)
 snoc-at (z ∷ l) x y zero e = inl (e, omega arith)
@@ -230,16 +253,16 @@ module _ {A B : Type 0} (f : A → Option B) where
       go (some y) e h = collect-some f x (xs ++ ys) y e ∙ ap (λ (l : List B). y ∷ l) h ∙ ap (λ (l : List B). l ++ collect f ys) (sym (collect-some f x xs y e))
 
 -- the anchors among the first i bigs have rows, and no big before place `from` ends behind the last of them
-abbrev pub Gathered : Side → List (List ℕ) → List (List Float) → List (List ℕ) → List Float → ℕ → ℕ → ℕ → ℕ → Type 0
-Gathered s bars prices rows cs n last from i =
+abbrev pub AnchorsAmong : Side → List (List ℕ) → List (List Float) → List (List ℕ) → List Float → ℕ → ℕ → ℕ → ℕ → Type 0
+AnchorsAmong s bars prices rows cs n last from i =
     (c : Levels) → Bigs c (s .bigs) bars prices → NoneBefore c last from × Anchors c (s .buy) (collect (lastStroke c) (take i (c .bigs))) n rows cs
 
-pub gathered-none : (s : Side) (bars : List (List ℕ)) (prices : List (List Float)) (rows : List (List ℕ)) (cs : List Float) → Gathered s bars prices rows cs 0 0 0 0
-gathered-none s bars prices rows cs c t = (none-first c 0, record { count = refl; are = λ i a e. absurd (none-some e) })
+pub among-none : (s : Side) (bars : List (List ℕ)) (prices : List (List Float)) (rows : List (List ℕ)) (cs : List Float) → AnchorsAmong s bars prices rows cs 0 0 0 0
+among-none s bars prices rows cs c t = (none-first c 0, record { count = refl; are = λ i a e. absurd (none-some e) })
 
 module _
     (s : Side) (bars : List (List ℕ)) (prices : List (List Float)) (rows : List (List ℕ)) (cs : List Float) (n last from i : ℕ)
-    (so-far : Gathered s bars prices rows cs n last from i) (more : i < s .bigs)
+    (so-far : AnchorsAmong s bars prices rows cs n last from i) (more : i < s .bigs)
   where
     module _ (c : Levels) (t : Bigs c (s .bigs) bars prices) where
       abbrev b : Triple
@@ -253,19 +276,19 @@ module _
           ap (collect (lastStroke c)) first-bigs
           ∙ collect-append (lastStroke c) (take i (c .bigs)) (b ∷ [])
 
-    pub gathered-missing : pointIn (getD bars i []) (getD prices i []) ≡ point.Nowhere → Gathered s bars prices rows cs n last from (i + 1)
-    gathered-missing e c t =
+    pub among-missing : pointIn (getD bars i []) (getD prices i []) ≡ point.Nowhere → AnchorsAmong s bars prices rows cs n last from (i + 1)
+    among-missing e c t =
         let gone = no-point (lastStroke c (b c t)) (sym (point-is c (s .bigs) bars prices t i more) ∙ e) in
         let same = one-more c t ∙ ap (λ (l : List Stroke). collect (lastStroke c) (take i (c .bigs)) ++ l) (collect-none (lastStroke c) (b c t) [] gone) ∙ append-nil _ in
         (so-far c t .0, subst (λ (l : List Stroke). Anchors c (s .buy) l n rows cs) (sym same) (so-far c t .1))
 
-    pub gathered-more :
+    pub among-more :
         (bar : ℕ) (x : Float) → pointIn (getD bars i []) (getD prices i []) ≡ point.At bar x
         → (place : ℕ) → FirstBehind (s .bigs) bars prices last from bar place
         → (end : End) → NextEnd (s .bigs) bars prices (s .buy) bar place end
         → (rows' : List (List ℕ)) (cs' : List Float) → PutsAnchor n bar place end rows cs rows' cs'
-        → Gathered s bars prices rows' cs' (n + 1) bar place (i + 1)
-    gathered-more bar x e place behind end next rows' cs' put c t =
+        → AnchorsAmong s bars prices rows' cs' (n + 1) bar place (i + 1)
+    among-more bar x e place behind end next rows' cs' put c t =
         let there = point-stroke (lastStroke c (b c t)) bar x (sym (point-is c (s .bigs) bars prices t i more) ∙ e) in
         let before = behind c t (so-far c t .0) in
         let same = one-more c t ∙ ap (λ (l : List Stroke). collect (lastStroke c) (take i (c .bigs)) ++ l) (collect-some (lastStroke c) (b c t) [] (there .0) (there .1)) in (
@@ -273,9 +296,9 @@ module _
           subst (λ (l : List Stroke). Anchors c (s .buy) l (n + 1) rows' cs') (sym same) (put c (s .buy) _ (there .0) (there .2) before (next c t) (so-far c t .1)),
         )
 
-pub gathered-all :
+pub among-all :
     (s : Side) (bars : List (List ℕ)) (prices : List (List Float)) (rows : List (List ℕ)) (cs : List Float) (n last from i : ℕ)
-    → Gathered s bars prices rows cs n last from i → i ≤ s .anchors → s .anchors ≤ i → AnchorsOf s bars prices n rows cs
-gathered-all s bars prices rows cs n last from i so-far h k c t =
+    → AnchorsAmong s bars prices rows cs n last from i → i ≤ s .anchors → s .anchors ≤ i → AnchorsOf s bars prices n rows cs
+among-all s bars prices rows cs n last from i so-far h k c t =
     let same : i ≡ s .anchors = omega arith in
     subst (λ (j : ℕ). Anchors c (s .buy) (collect (lastStroke c) (take j (c .bigs))) n rows cs) same (so-far c t .1)

@@ -2,7 +2,7 @@
 use Prim.Native.Nat.{ℕ, _+_, _<_, _≤_}
 use native.Mathlib.Omega.{arith}
 use native.Mathlib.Numerals.{add-one}
-use mathlib.Core.Path.{_≡_, refl, sym, ap, _∙_}
+use mathlib.Core.Path.{_≡_, refl, sym, ap, subst, _∙_}
 use mathlib.Core.Bool.{Bool, true, false, Bool·beq}
 use mathlib.Core.List.{List, [], _∷_}
 use mathlib.Core.Option.{Option, none, some}
@@ -20,7 +20,9 @@ use Rattle.rules.specs.Ranges.{lastStroke}
 use Rattle.levels.proofs.Read.{no-triple}
 use Rattle.tables.specs.Tables.{Bigs, pointIn}
 use Rattle.tables.proofs.Bigs.{way-is, point-is}
-use Rattle.mark_hits.specs.Anchors.{endsIn}
+use Rattle.mark_hits.specs.declared.End.{End}
+use Rattle.mark_hits.specs.declared.End.the-variants as end
+use Rattle.mark_hits.specs.Anchors.{endsIn, LaterEnd}
 
 -- ---- lists
 
@@ -133,3 +135,7 @@ module _
           stroke .3,
           opened ∙ end-here c up bar b rest (stroke .0) (stroke .1) (way w is ∙ e) (ap (ltb bar) (stroke .2) ∙ l),
         )
+
+-- the place of the next end lies behind this one, and within m
+pub end-later : (from m : ℕ) (r : End) (next bar : ℕ) (x : Float) → LaterEnd from m r → r ≡ end.At next bar x → (from < next) × (next ≤ m) × (bar < 0x1_0000)
+end-later from m r next bar x h e = subst (LaterEnd from m) e h

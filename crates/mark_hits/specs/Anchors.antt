@@ -1,8 +1,8 @@
 -- What the ends of bigs and the table of anchors stand for. Assumes nothing.
 use Prim.Native.Nat.{ℕ, _+_, _<_, _≤_}
 use mathlib.Core.Path.{_≡_}
-use mathlib.Core.Bool.{Bool, cond, Bool·beq}
-use mathlib.Core.List.{List, [], _∷_, _++_}
+use mathlib.Core.Bool.{Bool, cond, not, Bool·beq}
+use mathlib.Core.List.{List, [], _∷_, _++_, map}
 use mathlib.Core.Option.{Option, none, some}
 use lib.ListN.{length, take, drop, getD, getElem?}
 use lib.Dec.{eqb, ltb}
@@ -54,10 +54,18 @@ FirstBehind m bars prices last place after r = (c : Levels) → Bigs c m bars pr
 
 -- ---- anchors
 
+-- the end bars of those of some bigs that a hit behind an anchor may have: not of the side's direction, and behind a bar
+abbrev pub barsIn : Levels → Bool → ℕ → List Triple → List ℕ
+barsIn c buy bar bs = map (λ (s : Stroke). s .«end_bar») (endsIn c (not buy) bar bs)
+
+-- the anchors of a side
+abbrev pub anchorsIn : Levels → Side → List Stroke
+anchorsIn c s = collect (lastStroke c) (take (s .anchors) (c .bigs))
+
 -- how many bigs there are, how many of the first are looked at for anchors, and the anchors' side: those of these levels
 pub record Anchoring (c : Levels) (s : Side) : Type 0 where
   pub bigs : length (c .bigs) ≡ s .bigs
-  pub anchors : collect (lastStroke c) (take (s .anchors) (c .bigs)) ≡ anchorsOf c (c .superiors)
+  pub anchors : anchorsIn c s ≡ anchorsOf c (c .superiors)
   pub buy : s .buy ≡ anchorSide (c .superiors)
 
 abbrev pub SideOf : Counts → List (List ℕ) → Side → Type 0
@@ -95,4 +103,4 @@ PutsAnchor n bar from end rows cs rows' cs' =
 -- the anchors of a side, among bigs that are in two tables
 abbrev pub AnchorsOf : Side → List (List ℕ) → List (List Float) → ℕ → List (List ℕ) → List Float → Type 0
 AnchorsOf s bars prices r rows cs =
-    (c : Levels) → Bigs c (s .bigs) bars prices → Anchors c (s .buy) (collect (lastStroke c) (take (s .anchors) (c .bigs))) r rows cs
+    (c : Levels) → Bigs c (s .bigs) bars prices → Anchors c (s .buy) (anchorsIn c s) r rows cs

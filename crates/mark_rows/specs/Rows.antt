@@ -8,9 +8,9 @@ use lib.Dec.{eqb}
 use Rattle.chart.specs.declared.ThirdMark.{ThirdMark}
 use Rattle.chart.specs.declared.NMark.{NMark}
 use Rattle.rules.specs.Lists.{any, keep, behind}
-use Rattle.rules.specs.Records.{Quotes}
+use Rattle.rules.specs.Records.{Levels, Quotes}
 use Rattle.rules.specs.Marks.{markAt, numbered, zeroAt, push3N}
-use Rattle.laws.specs.Lists.{All, Distinct}
+use Rattle.laws.specs.Lists.{All, Distinct, endBars}
 
 -- the bar and the side of a mark, as one number, and back from it
 abbrev pub keyOf : ℕ → Bool → ℕ
@@ -62,6 +62,10 @@ Pushes key order n keys orders r keys' orders' = (q : Quotes) → Gathered q (ma
 -- room for n keys among ends of which P holds is room for r afterwards
 abbrev pub KeepsRoom : (List ℕ → Type 0) → List ℕ → ℕ → List ℕ → ℕ → Type 0
 KeepsRoom P keys n keys' r = (ends : List ℕ) → Room ends keys n → P ends → Room ends keys' r
+
+-- the same among the ends of the bigs, in all levels of which P holds
+abbrev pub KeepsEnds : (Levels → Type 0) → List ℕ → ℕ → List ℕ → ℕ → Type 0
+KeepsEnds P keys n keys' r = (c : Levels) → P c → Room (endBars c) keys n → Room (endBars c) keys' r
 
 -- these bars are among the ends
 abbrev pub Among : List ℕ → List ℕ → Type 0

@@ -2,7 +2,7 @@
 use Prim.Native.Nat.{ℕ, zero, suc, _+_, _-_, _<_, _≤_, min}
 use native.Mathlib.Omega.{arith}
 use native.Mathlib.Numerals.{add-one, unary-clauses}
-use mathlib.Core.Path.{_≡_, refl, sym, ap, _∙_}
+use mathlib.Core.Path.{_≡_, refl, sym, ap, subst, _∙_}
 use mathlib.Core.Bool.{Bool, true, false}
 use mathlib.Core.List.{List, [], _∷_}
 use lib.ListN.{length, drop, getD, length-drop, drop-of-length-le}
@@ -20,7 +20,9 @@ use Rattle.rules.specs.Marks.{leaving, pairEnds}
 use Rattle.levels.proofs.Read.{no-triple}
 use Rattle.tables.specs.Tables.{Bigs, rangeIn}
 use Rattle.tables.proofs.Bigs.{way-is, range-is}
-use Rattle.mark_scan.specs.Scan.{Limits}
+use Rattle.mark_scan.specs.declared.Pair.{Pair}
+use Rattle.mark_scan.specs.declared.Pair.the-variants as pair
+use Rattle.mark_scan.specs.Scan.{Limits, Later}
 
 -- ---- two bigs and those behind them
 
@@ -91,6 +93,10 @@ module _
 
         pub pairs-skip : s .«end_bar» < limit → (getD (getD bars k []) 0 0 ≡ d → ⊥) → goal ≡ pairEnds c stop d (drop (k + 1) (c .bigs))
         pairs-skip h n = rw behind (both ∙ pair-skip c stop d here next rest s own (limits _ small ∙ lt-leb _ _ h) (λ e. n (way ∙ e)))
+
+-- the place of the next pair lies behind this one, and within m
+pub pair-later : (from m : ℕ) (r : Pair) (next bar : ℕ) → Later from m r → r ≡ pair.At next bar → (from < next) × (next ≤ m) × (bar < 0x1_0000)
+pair-later from m r next bar h e = subst (Later from m) e h
 
 -- ---- where the scan starts
 

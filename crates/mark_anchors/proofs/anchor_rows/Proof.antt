@@ -3,13 +3,13 @@
 use Prim.Native.Nat.{_-_}
 use native.Mathlib.Omega.{arith}
 use borrow.Author.Needs.{needs}
-use Rattle.mark_anchors.proofs.Rows.{Anchoring, anchoring-first, anchoring-all, anchoring-nowhere, anchoring-at}
+use Rattle.mark_anchors.proofs.Rows.{AnchorsSoFar, anchors-first, anchors-all, anchors-nowhere, anchors-at}
 use Rattle.mark_anchors.proofs.anchor_rows.Statement.{statement}
 use Rattle.mark_anchors.proofs.anchor_rows.Tie as tie
 
 abbrev Inv-loop : tie.InvT-loop
 Inv-loop bars prices side limit highs lows n keys₀ orders₀ anchors cs found places₀ count₀ i₀ keys orders places count i =
-    Anchoring bars prices (record { highs = highs; lows = lows }) side limit n keys₀ orders₀ anchors cs found keys orders count i
+    AnchorsSoFar bars prices (record { highs = highs; lows = lows }) side limit n keys₀ orders₀ anchors cs found keys orders count i
 
 abbrev μ-loop : tie.MeasureT-loop
 μ-loop bars prices side limit highs lows n keys₀ orders₀ anchors cs found places₀ count₀ i₀ keys orders places count i = found - i
@@ -30,7 +30,7 @@ anchors-of-requires c κs = search needs
 loop-holds : tie.Need-loop-holds Inv-loop μ-loop
 loop-holds c =
     let first = c .before .before .before .before .before .before .before in
-    anchoring-first _ _ _ (first .args .side) _ _ _ _ _ _ _ (c .anchors-of .ensures .0) (c .anchors-of .ensures .1)
+    anchors-first _ _ _ (first .args .side) _ _ _ _ _ _ _ (c .anchors-of .ensures .0) (c .anchors-of .ensures .1)
 
 anchor-at-requires : tie.Need-anchor-at-requires Inv-loop μ-loop
 anchor-at-requires c κs = search needs
@@ -52,7 +52,7 @@ loop-again c =
     let read = c .before .before in
     let turn = read .before .before .before in
     let head = head-of read in
-    anchoring-nowhere _ _ _ (start head .args .side) _ _ _ _ _ _ _ _ _ _ (head .loop .i) (head .loop .inv) (turn .loop-test .taken)
+    anchors-nowhere _ _ _ (start head .args .side) _ _ _ _ _ _ _ _ _ _ (head .loop .i) (head .loop .inv) (turn .loop-test .taken)
     (read .anchor-at .result) (read .anchor-at .ensures) (c .enum-told .given .1)
 
 hit-rows-requires : tie.Need-hit-rows-requires Inv-loop μ-loop
@@ -75,7 +75,7 @@ loop-again-2 c =
     let turn = read .before .before .before in
     let head = head-of read in
     let own = rows .hit-rows .ensures in
-    anchoring-at _ _ _ (start head .args .side) _ _ _ _ _ _ _ _ _ _ (head .loop .i) (head .loop .inv) (turn .loop-test .taken)
+    anchors-at _ _ _ (start head .args .side) _ _ _ _ _ _ _ _ _ _ (head .loop .i) (head .loop .inv) (turn .loop-test .taken)
     (read .anchor-at .result) (read .anchor-at .ensures) _ (told .before .price .given .1) _ _ _ (own .0) (own .1 .0) (own .1 .1)
 
 same-length : tie.Need-same-length Inv-loop μ-loop
@@ -88,7 +88,7 @@ returns : tie.Need-returns Inv-loop μ-loop
 returns c =
     let head = c .before in
     let inv = head .loop .inv in
-    (anchoring-all _ _ _ (start head .args .side) _ _ _ _ _ _ _ _ _ _ (head .loop .i) inv (c .loop-test .left), (inv .room, inv .grown))
+    (anchors-all _ _ _ (start head .args .side) _ _ _ _ _ _ _ _ _ _ (head .loop .i) inv (c .loop-test .left), (inv .room, inv .grown))
 
 pub anchor-rows-spec : {M : Type 1} → statement M
 anchor-rows-spec =

@@ -4,17 +4,18 @@ use Prim.Native.Nat.{_-_, _<_, _≤_}
 use native.Mathlib.Omega.{arith}
 use borrow.Author.Needs.{needs}
 use borrow.Author.Tests.{not-true, not-false}
+use Rattle.mark_hits.proofs.Ends.{end-later}
 use Rattle.mark_rows.proofs.Gathered.{room-512}
-use Rattle.mark_anchors.proofs.Numbers.{later-is, Hitting, hitting-first, hitting-all, hitting-over, hitting-stopped, hitting-missed, hitting-more}
+use Rattle.mark_anchors.proofs.Numbers.{HitsSoFar, pushed-first, pushed-all, pushed-over, pushed-stopped, pushed-missed, pushed-more}
 use Rattle.mark_anchors.proofs.hit_rows.Statement.{statement}
 use Rattle.mark_anchors.proofs.hit_rows.Tie as tie
 
 abbrev Inv-loop : tie.InvT-loop
-Inv-loop bars prices aim highs lows keys₀ orders₀ n places₀ m order₀ count₀ k₀ keys orders places order count k =
-    Hitting bars prices (record { highs = highs; lows = lows }) aim n keys₀ orders₀ keys orders order count k
+Inv-loop bars prices hits highs lows keys₀ orders₀ n places₀ m order₀ count₀ k₀ keys orders places order count k =
+    HitsSoFar bars prices (record { highs = highs; lows = lows }) hits n keys₀ orders₀ keys orders order count k
 
 abbrev μ-loop : tie.MeasureT-loop
-μ-loop bars prices aim highs lows keys₀ orders₀ n places₀ m order₀ count₀ k₀ keys orders places order count k = m - k
+μ-loop bars prices hits highs lows keys₀ orders₀ n places₀ m order₀ count₀ k₀ keys orders places order count k = m - k
 
 -- the places of the code that the proof goes back to
 abbrev start : tie.At-loop Inv-loop μ-loop → tie.Start Inv-loop μ-loop
@@ -35,8 +36,10 @@ hit-of c = c .before .before .before .before .before .before
 -- where the next end lies, and how many rows there are
 later :
     (c : tie.After-reached Inv-loop μ-loop)
-    → (head-of (end-of c) .loop .k < c .before .before .end .given .0 .0) × (c .before .before .end .given .0 .0 ≤ start (head-of (end-of c)) .args .aim .bigs)
-later c = later-is _ _ (end-of c .next-end .result) _ _ _ (c .before .before .end .given .1) (end-of c .next-end .ensures .0)
+    → (head-of (end-of c) .loop .k < c .before .before .end .given .0 .0) × (c .before .before .end .given .0 .0 ≤ start (head-of (end-of c)) .args .hits .bigs)
+later c =
+    let next = end-later _ _ (end-of c .next-end .result) _ _ _ (end-of c .next-end .ensures .0) (c .before .before .end .given .1) in
+    (next .0, next .1)
 
 few : (c : tie.At-loop Inv-loop μ-loop) → c .loop .count ≤ 512
 few c =
@@ -45,7 +48,7 @@ few c =
     room-512 (inv .room (room .0) (room .1) (room .2)) (omega (arith, inv .grown .long, start c .pre .0))
 
 loop-holds : tie.Need-loop-holds Inv-loop μ-loop
-loop-holds c = hitting-first _ _ _ (c .before .before .before .before .args .aim) _ _ _
+loop-holds c = pushed-first _ _ _ (c .before .before .before .before .args .hits) _ _ _
 
 next-end-requires : tie.Need-next-end-requires Inv-loop μ-loop
 next-end-requires c κs = search needs
@@ -67,7 +70,7 @@ returns c =
     let ended = c .before .before in
     let head = head-of ended in
     let inv = head .loop .inv in (
-      hitting-over _ _ _ (start head .args .aim) _ _ _ _ _ _ _ _ inv (ended .next-end .result) (ended .next-end .ensures .1) (c .enum-told .given .1),
+      pushed-over _ _ _ (start head .args .hits) _ _ _ _ _ _ _ _ inv (ended .next-end .result) (ended .next-end .ensures .1) (c .enum-told .given .1),
       (inv .room, inv .grown),
     )
 
@@ -86,7 +89,7 @@ returns-2 c =
     let ended = end-of at in
     let head = head-of ended in
     let inv = head .loop .inv in (
-      hitting-stopped _ _ _ (start head .args .aim) _ _ _ _ _ _ _ _ inv (ended .next-end .result) (ended .next-end .ensures .1) _ _ _
+      pushed-stopped _ _ _ (start head .args .hits) _ _ _ _ _ _ _ _ inv (ended .next-end .result) (ended .next-end .ensures .1) _ _ _
           (at .before .before .end .given .1) (at .reached .ensures .1) _ (at .reached .ensures .0) (c .if1 .taken),
       (inv .room, inv .grown),
     )
@@ -111,7 +114,7 @@ loop-again c =
     let at = reached-of hit in
     let ended = end-of at in
     let head = head-of ended in
-    hitting-missed _ _ _ (start head .args .aim) _ _ _ _ _ _ _ _ (head .loop .inv) (ended .next-end .result) (ended .next-end .ensures .1) _ _ _
+    pushed-missed _ _ _ (start head .args .hits) _ _ _ _ _ _ _ _ (head .loop .inv) (ended .next-end .result) (ended .next-end .ensures .1) _ _ _
     (at .before .before .end .given .1) (at .reached .ensures .1) _ (at .reached .ensures .0) (hit .before .before .if1 .left) (later at .0) (hit .before .hit-at .result) _
     (hit .before .hit-at .ensures .1) (hit .is-hit .ensures) (not-true _ (c .if2 .taken))
 
@@ -154,7 +157,7 @@ loop-again-2 c =
     let at = reached-of hit in
     let ended = end-of at in
     let head = head-of ended in
-    hitting-more _ _ _ (start head .args .aim) _ _ _ _ _ _ _ _ (head .loop .inv) (ended .next-end .result) (ended .next-end .ensures .1) _ _ _
+    pushed-more _ _ _ (start head .args .hits) _ _ _ _ _ _ _ _ (head .loop .inv) (ended .next-end .result) (ended .next-end .ensures .1) _ _ _
     (at .before .before .end .given .1) (at .reached .ensures .1) _ (at .reached .ensures .0) (hit .before .before .if1 .left) (later at .0) (hit .before .hit-at .result) _
     (hit .before .hit-at .ensures .1) (hit .is-hit .ensures) (not-false _ (row .before .before .before .before .before .if2 .left)) _ _ _ _ (row .before .before .before .before .key-of .ensures)
     (row .hit-row .ensures .0) (row .hit-row .ensures .1 .0) (row .hit-row .ensures .1 .1)
@@ -169,7 +172,7 @@ returns-3 : tie.Need-returns-3 Inv-loop μ-loop
 returns-3 c =
     let head = c .before in
     let inv = head .loop .inv in (
-      hitting-all _ _ _ (start head .args .aim) _ _ _ _ _ _ _ _ inv (c .loop-test .left),
+      pushed-all _ _ _ (start head .args .hits) _ _ _ _ _ _ _ _ inv (c .loop-test .left),
       (inv .room, inv .grown),
     )
 
