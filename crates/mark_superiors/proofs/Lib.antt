@@ -1,4 +1,4 @@
-pub mod Standing
-pub mod Meetings
-pub mod Gatherings
-pub mod Rowings
+pub mod ZoneOrder
+pub mod ZoneBars
+pub mod SuperiorBars
+pub mod SuperiorRows

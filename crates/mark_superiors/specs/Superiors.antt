@@ -11,12 +11,12 @@ use Rattle.rules.specs.Lists.{each}
 use Rattle.rules.specs.Records.{Levels, Quotes}
 use Rattle.rules.specs.Zones.{overlapZones}
 use Rattle.rules.specs.Marks.{pairEnds, scanned, insertBar, superiorsNumbered}
-use Rattle.laws.specs.Lists.{All, Rising, endBars}
+use Rattle.laws.specs.Lists.{All, Rising}
 use Rattle.tables.specs.declared.Counts.{Counts}
 use Rattle.tables.specs.Tables.{Bigs}
 use Rattle.mark_scan.specs.declared.Scan.{Scan}
 use Rattle.mark_scan.specs.Scan.{Limits, Scanned}
-use Rattle.mark_rows.specs.Rows.{rowKey, Room, Among, Gathered}
+use Rattle.mark_rows.specs.Rows.{rowKey, Among, Gathered}
 
 -- ---- bars
 
@@ -53,8 +53,3 @@ abbrev pub NumbersSuperiors :
 NumbersSuperiors n bars prices sups scans zeros keys orders r keys' orders' =
     (c : Levels) (q : Quotes) (thirds : List ThirdMark) → Scanned c n bars prices sups scans → take zeros keys ≡ map rowKey thirds
     → Gathered q (superiorsNumbered c q (overlapZones c) thirds 0 (c .superiors)) zeros keys orders r keys' orders'
-
--- room among the ends of the bigs is kept
-abbrev pub KeepsEnds : Counts → List (List ℕ) → List (List Float) → List (List ℕ) → List (List ℕ) → ℕ → List ℕ → ℕ → List ℕ → Type 0
-KeepsEnds n bars prices sups scans zeros keys r keys' =
-    (c : Levels) → Scanned c n bars prices sups scans → Room (endBars c) keys zeros → Room (endBars c) keys' r

@@ -11,8 +11,8 @@ ghost use Rattle.rules.specs.Records.{Levels};
 ghost use Rattle.laws.specs.Lists.{endBars};
 ghost use Rattle.tables.specs.Tables.{Bigs, Fits};
 ghost use Rattle.mark_scan.specs.Scan.{Scanned};
-ghost use Rattle.mark_rows.specs.Rows.{Room, Grown};
-ghost use Rattle.mark_superiors.specs.Superiors.{RisingAmong, PutsPairs, TakesBlock, NumbersSuperiors, KeepsEnds};
+ghost use Rattle.mark_rows.specs.Rows.{Room, Grown, KeepsEnds};
+ghost use Rattle.mark_superiors.specs.Superiors.{RisingAmong, PutsPairs, TakesBlock, NumbersSuperiors};
 
 // ---- bars
 
@@ -48,7 +48,7 @@ fn zone_bars(
 }
 
 // The bars of a superior's zones: how many, and the place where the zones of the next superior begin.
-struct Taken {
+struct OwnBars {
     count: usize,
     next: usize,
 }
@@ -63,7 +63,7 @@ fn superior_bars(
     bars: &[[u16; 6]; 256],
     prices: &[[f64; 3]; 256],
     out: &mut [u32],
-) -> Taken
+) -> OwnBars
     requires { ⌜ Fits counts × (length (now out) ≡ 257) ⌝ }
     requires { ⌜ ((c : Levels) × (sups : List (List ℕ)) × Scanned c counts (now bars) (now prices) sups (now scans) × RisingAmong (endBars c) []) ⌝ }
     ensures { λ r. ⌜ (r .count ≤ 257) × (length (now (out .exit)) ≡ 257) ⌝ }
@@ -74,12 +74,12 @@ fn superior_bars(
     while i < counts.zones {
         let scan = mark_scan::scan_at(scans, i);
         if scan.superior != h {
-            return Taken { count, next: i };
+            return OwnBars { count, next: i };
         }
         count = zone_bars(bars, prices, counts.bigs, scan, out, count);
         i += 1;
     }
-    Taken { count, next: i }
+    OwnBars { count, next: i }
 }
 
 // ---- rows
@@ -99,8 +99,8 @@ pub fn superior_rows(
     requires { ⌜ ((c : Levels) × Scanned c counts (now bars) (now prices) (now sups) (now scans) × Room (endBars c) (now keys) zeros) ⌝ }
     ensures { λ r. ⌜ NumbersSuperiors counts (now (bars .entry)) (now (prices .entry)) (now (sups .entry)) (now (scans .entry))
         zeros (now (keys .entry)) (now (orders .entry)) r (now (keys .exit)) (now (orders .exit)) ⌝ }
-    ensures { λ r. ⌜ KeepsEnds counts (now (bars .entry)) (now (prices .entry)) (now (sups .entry)) (now (scans .entry))
-        zeros (now (keys .entry)) r (now (keys .exit)) ⌝ }
+    ensures { λ r. ⌜ KeepsEnds (λ (c : Levels). Scanned c counts (now (bars .entry)) (now (prices .entry)) (now (sups .entry)) (now (scans .entry)))
+        (now (keys .entry)) zeros (now (keys .exit)) r ⌝ }
     ensures { λ r. ⌜ Grown zeros (now (keys .entry)) (now (orders .entry)) r (now (keys .exit)) (now (orders .exit)) ⌝ }
 {
     let mut out = [0u32; 257];

@@ -22,46 +22,38 @@ use Rattle.mark_hits.specs.declared.Hit.{Hit}
 use Rattle.mark_hits.specs.declared.Hit.the-variants.{At, Nothing}
 use Rattle.mark_hits.specs.declared.Anchor.{Anchor}
 use Rattle.mark_hits.specs.Found.{hitBar, LentPrice}
-use Rattle.mark_hits.specs.Anchors.{endsIn, EndsBy, LaterEnd, priceOf, anchorIn, AnchorAt, Anchors}
+use Rattle.mark_hits.specs.Anchors.{EndsBy, barsIn, priceOf, anchorIn, AnchorAt, Anchors}
 use Rattle.mark_hits.proofs.Hits.{hit-first, hit-later}
-use Rattle.mark_hits.proofs.Ends.{ends-over}
+use Rattle.mark_hits.proofs.Anchors.{bars-none, bars-over, bars-next, bars-behind}
 use Rattle.mark_thirds.specs.Third.{hitMarks}
 
 -- ---- the first hit: the bigs from place k on are left to look at
 
-abbrev pub barsOf : List Stroke → List ℕ
-barsOf l = map (λ (s : Stroke). s .«end_bar») l
-
 module _
-    (c : Levels) (beat : ℕ → Bool) (up : Bool) (after k : ℕ) (goal : Option ℕ)
-    (left : goal ≡ find beat (barsOf (endsIn c up after (drop k (c .bigs)))))
+    (c : Levels) (beat : ℕ → Bool) (buy : Bool) (after k : ℕ) (goal : Option ℕ) (left : goal ≡ find beat (barsIn c buy after (drop k (c .bigs))))
   where
-    pub bars-none : (m : ℕ) (bars : List (List ℕ)) (prices : List (List Float)) → Bigs c m bars prices → m ≤ k → goal ≡ none
-    bars-none m bars prices t h = left ∙ ap (λ (l : List Stroke). find beat (barsOf l)) (ends-over m bars prices up after k c t _ refl h)
+    pub first-none : (m : ℕ) (bars : List (List ℕ)) (prices : List (List Float)) → Bigs c m bars prices → m ≤ k → goal ≡ none
+    first-none m bars prices t h = left ∙ ap (find beat) (bars-none c buy after k m bars prices t h)
 
-    module _ (r : End) (ends : EndsBy c up after k r) where
-      pub bars-over : r ≡ end.Over → goal ≡ none
-      bars-over e = left ∙ ap (λ (l : List Stroke). find beat (barsOf l)) (subst (EndsBy c up after k) e ends)
+    module _ (r : End) (ends : EndsBy c (not buy) after k r) where
+      pub first-over : r ≡ end.Over → goal ≡ none
+      first-over e = left ∙ ap (find beat) (bars-over c buy after k r ends e)
 
       module _
           (next bar : ℕ) (x : Float) (e : r ≡ end.At next bar x) (h : Hit) (tried : find beat (bar ∷ []) ≡ hitBar h) (t : Bool)
           (test : t ≡ not (isNone (hitBar h)))
         where
-          more : goal ≡ find beat (bar ∷ barsOf (endsIn c up after (drop next (c .bigs))))
-          more =
-              let (s, at, _, is) = subst (EndsBy c up after k) e ends in
-              let rest = barsOf (endsIn c up after (drop next (c .bigs))) in
-              left ∙ ap (λ (l : List Stroke). find beat (barsOf l)) is ∙ ap (λ (b : ℕ). find beat (b ∷ rest)) at
+          abbrev rest : List ℕ
+          rest = barsIn c buy after (drop next (c .bigs))
 
-          pub bars-hit : t ≡ true → goal ≡ hitBar h
-          bars-hit g = more ∙ hit-first beat bar (barsOf (endsIn c up after (drop next (c .bigs)))) h tried t test g
+          more : goal ≡ find beat (bar ∷ rest)
+          more = left ∙ ap (find beat) (bars-next c buy after k r ends next bar x e)
 
-          pub bars-missed : t ≡ false → goal ≡ find beat (barsOf (endsIn c up after (drop next (c .bigs))))
-          bars-missed g = more ∙ hit-later beat bar (barsOf (endsIn c up after (drop next (c .bigs)))) h tried t test g
+          pub first-hit : t ≡ true → goal ≡ hitBar h
+          first-hit g = more ∙ hit-first beat bar rest h tried t test g
 
--- the place of the next end lies behind this one, and within m
-pub end-later : (from m : ℕ) (r : End) (next bar : ℕ) (x : Float) → LaterEnd from m r → r ≡ end.At next bar x → (from < next) × (next ≤ m) × (bar < 0x1_0000)
-end-later from m r next bar x h e = subst (LaterEnd from m) e h
+          pub first-missed : t ≡ false → goal ≡ find beat rest
+          first-missed g = more ∙ hit-later beat bar rest h tried t test g
 
 -- ---- the mark of an anchor
 
@@ -83,18 +75,14 @@ module _ (c : Levels) (q : Quotes) (buy : Bool) (a : Stroke) where
     pub anchor-nowhere : x .price ≡ price.Nowhere → anchorThird c q buy a ≡ []
     anchor-nowhere e = mark-nowhere (at .price ∙ ap priceOf e)
 
-    bars-are : anchorBars c buy a ≡ barsOf (endsIn c (not buy) (x .bar) (drop (x .from) (c .bigs)))
-    unfolding anchorBars
-    bars-are = rw (at .behind (not buy), at .bar)
-
     pub anchor-is :
         (p : Float) → x .price ≡ price.At p → (zone : Bool) → zone ≡ false → (h : Hit)
-        → find (beats q buy p) (barsOf (endsIn c (not buy) (x .bar) (drop (x .from) (c .bigs)))) ≡ hitBar h → LentPrice q buy h
+        → find (beats q buy p) (barsIn c buy (x .bar) (drop (x .from) (c .bigs))) ≡ hitBar h → LentPrice q buy h
         → anchorThird c q buy a ≡ hitMarks zone buy p h
     unfolding thirdAt
-    anchor-is p e zone no-zone Nothing found w = mark-none p (at .price ∙ ap priceOf e) (ap (find (beats q buy p)) bars-are ∙ found)
+    anchor-is p e zone no-zone Nothing found w = mark-none p (at .price ∙ ap priceOf e) (ap (find (beats q buy p)) (bars-behind c buy a x at) ∙ found)
     anchor-is p e zone no-zone (At bar y) found w =
-        rw (no-zone, w .0) (mark-some p (at .price ∙ ap priceOf e) bar (ap (find (beats q buy p)) bars-are ∙ found))
+        rw (no-zone, w .0) (mark-some p (at .price ∙ ap priceOf e) bar (ap (find (beats q buy p)) (bars-behind c buy a x at) ∙ found))
 
 -- anchor i of the table
 pub anchor-here :

@@ -20,6 +20,7 @@ use Rattle.laws.proofs.Lists.{at-lt, each-append}
 use Rattle.laws.proofs.Arrays.{left-more, left-none}
 use Rattle.mark_rows.specs.Rows.{keyOf, barIn, sideIn, rowKey}
 use Rattle.mark_rows.proofs.Gathered.{key-bar, key-side, key-same}
+use Rattle.mark_hits.proofs.Anchors.{snoc-at}
 use Rattle.mark_hits.specs.declared.Hit.{Hit}
 use Rattle.mark_hits.specs.declared.Hit.the-variants.{At, Nothing}
 use Rattle.mark_thirds.specs.Third.{thirdIn, Marked, OnBar, hitMarks}
@@ -71,16 +72,6 @@ any-keys (x ∷ ms) key =
 
 -- ---- one mark more
 
-at-snoc : {A : Type 0} (xs : List A) (y : A) (i : ℕ) (x : A) → getElem? (xs ++ y ∷ []) i ≡ some x → (getElem? xs i ≡ some x) ⊎ ((i ≡ length xs) × (x ≡ y))
-at-snoc [] y zero x e = inr (refl, cc)
-at-snoc [] y (suc i) x e = absurd (none-some e)
-at-snoc (z ∷ xs) y zero x e = inl e
-at-snoc (z ∷ xs) y (suc i) x e = go (at-snoc xs y i x e)
-  where
-    go : (getElem? xs i ≡ some x) ⊎ ((i ≡ length xs) × (x ≡ y)) → (getElem? xs i ≡ some x) ⊎ ((suc i ≡ suc (length xs)) × (x ≡ y))
-    go (inl k) = inl k
-    go (inr k) = inr (ap suc (k .0), k .1)
-
 pub marked-none : (zoned : ℕ) (keys : List ℕ) (marks : List (List Float)) → Marked zoned 0 keys marks []
 marked-none zoned keys marks = record { many = refl; are = λ i m e. absurd (none-some e) }
 
@@ -108,17 +99,17 @@ module _ (zoned count : ℕ) (keys : List ℕ) (marks : List (List Float)) (l : 
           count < length marks → r ≡ false
           → Marked zoned (count + 1) (set keys count key) (set marks count (x ∷ p ∷ [])) (addThird l m)
       unfolding addThird
-      put-new room e = rw (addThird, among, e) (record { many = omega (arith, length-snoc l m, marked .many); are = λ i y f. go i y (at-snoc l m i y f) })
+      put-new room e = rw (addThird, among, e) (record { many = omega (arith, length-snoc l m, marked .many); are = λ i y f. go i y (snoc-at l m y i f) })
         where
           go :
-              (i : ℕ) (y : ThirdMark) → (getElem? l i ≡ some y) ⊎ ((i ≡ length l) × (y ≡ m))
+              (i : ℕ) (y : ThirdMark) → ((getElem? l i ≡ some y) × (i < length l)) ⊎ ((i ≡ length l) × (m ≡ y))
               → y ≡ thirdIn (ltb i zoned) (getD (set keys count key) i 0) (getD (set marks count (x ∷ p ∷ [])) i [])
           go i y (inl f) =
-              let other : i ≡ count → ⊥ = λ w. omega (arith, w, at-lt l i y f, marked .many) in
-              rw (getD-set-other keys count i key 0 other, getD-set-other marks count i (x ∷ p ∷ []) [] other) (marked .are i y f)
+              let other : i ≡ count → ⊥ = λ w. omega (arith, w, f .1, marked .many) in
+              rw (getD-set-other keys count i key 0 other, getD-set-other marks count i (x ∷ p ∷ []) [] other) (marked .are i y (f .0))
           go i y (inr f) =
               let same : i ≡ count = f .0 ∙ marked .many in
-              rw (same, getD-set-same keys count key 0 wide, getD-set-same marks count (x ∷ p ∷ []) [] room) (f .1)
+              rw (same, getD-set-same keys count key 0 wide, getD-set-same marks count (x ∷ p ∷ []) [] room) (sym (f .1))
 
   -- all of them are of zones
   pub marked-zoned : count ≤ zoned → Marked count count keys marks l

@@ -54,10 +54,6 @@ unfolding pairEnds
 scan-none p c stop d m at bars prices t goal left h =
     left ∙ ap (λ (l : List Triple). find p (pairEnds c stop d l)) (drop-of-length-le (c .bigs) {i = at} (omega (arith, t .count)))
 
--- the place of the next pair lies behind this one, and within m
-pub pair-later : (from m : ℕ) (r : Pair) (next bar : ℕ) → Later from m r → r ≡ pair.At next bar → (from < next) × (next ≤ m) × (bar < 0x1_0000)
-pair-later from m r next bar h e = subst (Later from m) e h
-
 -- the bar of a hit lies inside slices of at most 65,536 prices
 pub hit-on-bar : (q : Quotes) (buy : Bool) (h : Hit) → LentPrice q buy h → length (q .highs) ≤ 0x1_0000 → length (q .lows) ≤ 0x1_0000 → OnBar h
 hit-on-bar q buy Nothing w high low = tt

@@ -24,7 +24,7 @@ use Rattle.mark_hits.specs.declared.Hit.{Hit}
 use Rattle.mark_hits.specs.declared.Hit.the-variants.{At, Nothing}
 use Rattle.mark_hits.specs.Found.{hitBar}
 use Rattle.mark_hits.specs.declared.Side.{Side}
-use Rattle.mark_hits.specs.Anchors.{endsIn}
+use Rattle.mark_hits.specs.Anchors.{barsIn, anchorsIn}
 use Rattle.mark_rows.specs.Rows.{barIn, sideIn}
 use Rattle.mark_thirds.specs.declared.Thirds.{Thirds}
 
@@ -102,14 +102,14 @@ ZoneMarks n bars prices scans zp q r keys marks =
 abbrev pub AnchorHit : Side → List (List ℕ) → List (List Float) → ℕ → ℕ → Float → Quotes → Hit → Type 0
 AnchorHit s bars prices bar from p q r =
     (c : Levels) → Bigs c (s .bigs) bars prices
-    → find (beats q (s .buy) p) (map (λ (e : Stroke). e .«end_bar») (endsIn c (not (s .buy)) bar (drop from (c .bigs)))) ≡ hitBar r
+    → find (beats q (s .buy) p) (barsIn c (s .buy) bar (drop from (c .bigs))) ≡ hitBar r
 
 -- where the first `found` are some marks, all of zones, the first r are those and the marks of the side's anchors
 abbrev pub AnchorMarks :
     Side → List (List ℕ) → List (List Float) → Quotes → ℕ → List ℕ → List (List Float) → ℕ → List ℕ → List (List Float) → Type 0
 AnchorMarks s bars prices q found keys marks r keys' marks' =
     (c : Levels) (l : List ThirdMark) → Bigs c (s .bigs) bars prices → Marked found found keys marks l
-    → Marked found r keys' marks' (foldl addThird l (each (anchorThird c q (s .buy)) (collect (lastStroke c) (take (s .anchors) (c .bigs)))))
+    → Marked found r keys' marks' (foldl addThird l (each (anchorThird c q (s .buy)) (anchorsIn c s)))
 
 -- ---- zones and anchors
 

@@ -3,12 +3,13 @@
 use Prim.Native.Nat.{_-_, _≤_}
 use native.Mathlib.Omega.{arith}
 use borrow.Author.Needs.{needs}
-use Rattle.mark_superiors.proofs.Meetings.{Meeting, meeting-first, meeting-room, meeting-none, meeting-over, meeting-next, pair-within}
+use Rattle.mark_scan.proofs.Pairs.{pair-later}
+use Rattle.mark_superiors.proofs.ZoneBars.{PairsSoFar, pairs-first, pairs-room, pairs-none, pairs-over, pairs-next}
 use Rattle.mark_superiors.proofs.zone_bars.Statement.{statement}
 use Rattle.mark_superiors.proofs.zone_bars.Tie as tie
 
 abbrev Inv-loop : tie.InvT-loop
-Inv-loop bars prices m scan out₀ k count₀ hint₀ at₀ out count hint at = Meeting bars prices m scan out₀ k out count hint at
+Inv-loop bars prices m scan out₀ k count₀ hint₀ at₀ out count hint at = PairsSoFar bars prices m scan out₀ k out count hint at
 
 abbrev μ-loop : tie.MeasureT-loop
 μ-loop bars prices m scan out₀ k count₀ hint₀ at₀ out count hint at = m - at
@@ -23,7 +24,7 @@ head c = c .before .before
 few : (c : tie.At-loop Inv-loop μ-loop) → c .loop .count ≤ 256
 few c =
     let chart = begun c .pre .1 in
-    meeting-room _ _ _ _ _ _ _ _ _ (c .loop .at) (c .loop .inv) (chart .0) (chart .1) (chart .2)
+    pairs-room _ _ _ _ _ _ _ _ _ (c .loop .at) (c .loop .inv) (chart .0) (chart .1) (chart .2)
 
 cast-at : tie.Need-cast-at Inv-loop μ-loop
 cast-at c = search needs
@@ -31,7 +32,7 @@ cast-at c = search needs
 loop-holds : tie.Need-loop-holds Inv-loop μ-loop
 loop-holds c =
     let start = c .before .before in
-    meeting-first _ _ _ _ _ _ (start .pre .0 .1) (start .pre .0 .2)
+    pairs-first _ _ _ _ _ _ (start .pre .0 .1) (start .pre .0 .2)
 
 next-pair-requires : tie.Need-next-pair-requires Inv-loop μ-loop
 next-pair-requires c κs = search needs
@@ -51,14 +52,14 @@ returns c =
     let inv = head found .loop .inv in
     let pair = found .next-pair in (
       (inv .low, inv .wide),
-      meeting-over _ _ _ _ _ _ _ _ _ (head found .loop .at) inv (pair .result) (pair .ensures .1) (c .enum-told .given .1),
+      pairs-over _ _ _ _ _ _ _ _ _ (head found .loop .at) inv (pair .result) (pair .ensures .1) (c .enum-told .given .1),
     )
 
 cast-insert-bar : tie.Need-cast-insert-bar Inv-loop μ-loop
 cast-insert-bar c =
     let told = c .before .before in
     let found = told .before .before in
-    let below = pair-within _ _ _ _ _ (found .next-pair .ensures .0) (told .pair .given .1) .2 in
+    let below = pair-later _ _ (found .next-pair .result) _ _ (found .next-pair .ensures .0) (told .pair .given .1) .2 in
     search needs
 
 insert-bar-requires : tie.Need-insert-bar-requires Inv-loop μ-loop
@@ -72,7 +73,7 @@ loop-less : tie.Need-loop-less Inv-loop μ-loop
 loop-less c =
     let told = c .before .before .before .before .before in
     let found = told .before .before in
-    let later = pair-within _ _ _ _ _ (found .next-pair .ensures .0) (told .pair .given .1) in
+    let later = pair-later _ _ (found .next-pair .result) _ _ (found .next-pair .ensures .0) (told .pair .given .1) in
     omega (arith, later .0, later .1)
 
 loop-again : tie.Need-loop-again Inv-loop μ-loop
@@ -82,7 +83,7 @@ loop-again c =
     let found = told .before .before in
     let here = head found in
     let pair = found .next-pair in
-    meeting-next _ _ _ _ _ _ _ _ _ (here .loop .at) (here .loop .inv) (pair .result) (pair .ensures .1) _ _ (told .pair .given .1)
+    pairs-next _ _ _ _ _ _ _ _ _ (here .loop .at) (here .loop .inv) (pair .result) (pair .ensures .1) _ _ (told .pair .given .1)
     _ _ _ (put .ensures .0) (put .ensures .1 .0) (omega (arith, few here, put .ensures .1 .1 .1)) (put .ensures .1 .1 .2)
 
 same-length-2 : tie.Need-same-length-2 Inv-loop μ-loop
@@ -91,7 +92,7 @@ same-length-2 c = search needs
 returns-2 : tie.Need-returns-2 Inv-loop μ-loop
 returns-2 c =
     let inv = c .before .loop .inv in
-    ((inv .low, inv .wide), meeting-none _ _ _ _ _ _ _ _ _ (c .before .loop .at) inv (c .loop-test .left))
+    ((inv .low, inv .wide), pairs-none _ _ _ _ _ _ _ _ _ (c .before .loop .at) inv (c .loop-test .left))
 
 pub zone-bars-spec : {M : Type 1} → statement M
 zone-bars-spec =

@@ -15,16 +15,13 @@ use Rattle.rules.specs.Marks.{addThird, anchorThird}
 use Rattle.levels.proofs.Read.{no-stroke}
 use Rattle.tables.specs.Tables.{Bigs}
 use Rattle.mark_hits.specs.declared.Side.{Side}
+use Rattle.mark_hits.specs.Anchors.{anchorsIn}
 use Rattle.mark_thirds.specs.Third.{Marked}
 use Rattle.mark_thirds.proofs.Marked.{marked-next, marked-all}
 use Rattle.mark_thirds.proofs.ZoneMarks.{hit-on-bar}
 use Rattle.mark_thirds.proofs.Anchors.{anchor-nowhere, anchor-is, anchor-here}
 use Rattle.mark_thirds.proofs.anchor_marks.Statement.{statement}
 use Rattle.mark_thirds.proofs.anchor_marks.Tie as tie
-
--- the anchors of a side
-abbrev anchorsIn : Levels → Side → List Stroke
-anchorsIn c s = collect (lastStroke c) (take (s .anchors) (c .bigs))
 
 abbrev Inv-loop : tie.InvT-loop
 Inv-loop bars prices side highs lows found keys₀ marks₀ anchors cs n count₀ i₀ keys marks count i =

@@ -9,8 +9,9 @@ use Rattle.rules.specs.Records.{isUp, Levels}
 use Rattle.rules.specs.Marks.{beats, pairEnds}
 use Rattle.tables.specs.Tables.{Bigs}
 use Rattle.mark_scan.specs.Scan.{Limits}
+use Rattle.mark_scan.proofs.Pairs.{pair-later}
 use borrow.Author.Needs.{needs}
-use Rattle.mark_thirds.proofs.ZoneMarks.{scan-over, scan-here, scan-later, scan-none, pair-later}
+use Rattle.mark_thirds.proofs.ZoneMarks.{scan-over, scan-here, scan-later, scan-none}
 use Rattle.mark_thirds.proofs.zone_hit.Statement.{statement}
 use Rattle.mark_thirds.proofs.zone_hit.Tie as tie
 

@@ -62,15 +62,15 @@ module _ (h : ℕ) where
 -- ---- the superiors from i on
 
 -- their zones are those from place `at` on
-pub record Standing (c : Levels) (i at : ℕ) : Type 0 where
+pub record ZonesLeft (c : Levels) (i at : ℕ) : Type 0 where
   pub rest : drop at (overlapZones c) ≡ zonesFrom (rangeOf c) (c .bigs) i (drop i (c .superiors))
   pub apart : (h : ℕ) → i ≤ h → ownZones h (overlapZones c) ≡ ownZones h (drop at (overlapZones c))
 
-pub standing-first : (c : Levels) → Standing c 0 0
+pub zones-left-first : (c : Levels) → ZonesLeft c 0 0
 unfolding overlapZones
-standing-first c = record { rest = refl; apart = λ h k. refl }
+zones-left-first c = record { rest = refl; apart = λ h k. refl }
 
-module _ (c : Levels) (i at : ℕ) (so-far : Standing c i at) (more : i < length (c .superiors)) where
+module _ (c : Levels) (i at : ℕ) (so-far : ZonesLeft c i at) (more : i < length (c .superiors)) where
   abbrev pub own : List Zone
   own = zonesOf (rangeOf c) (c .bigs) i (getD (c .superiors) i no-triple)
 
@@ -91,8 +91,8 @@ module _ (c : Levels) (i at : ℕ) (so-far : Standing c i at) (more : i < length
       let mine = so-far .apart i (omega arith) ∙ ap (ownZones i) (block .stand) ∙ own-all i (block .owned) (all-map (λ z k e. omega arith) (block .above)) in
       ap (λ (zs : List Zone). foldl insertBar [] (each (scanned c (overlapZones c)) zs)) (sym mine)
 
-  pub standing-next : (next : ℕ) → drop next (overlapZones c) ≡ later → Standing c (i + 1) next
-  standing-next next e =
+  pub zones-left-next : (next : ℕ) → drop next (overlapZones c) ≡ later → ZonesLeft c (i + 1) next
+  zones-left-next next e =
       record {
         rest = e;
         apart =

@@ -20,7 +20,7 @@ use Rattle.tables.specs.declared.Counts.{Counts}
 use Rattle.mark_scan.specs.declared.Scan.{Scan}
 use Rattle.mark_scan.specs.Scan.{Limits, ZoneScan, scanIn, Scanned}
 use Rattle.mark_superiors.specs.Superiors.{RisingAmong, PutsPairs, Block, TakesBlock}
-use Rattle.mark_superiors.proofs.Meetings.{among-more, pairs-end}
+use Rattle.mark_superiors.proofs.ZoneBars.{among-more, pairs-end}
 
 -- what is left of a list from place i on: its element there, and those behind it
 front : (i : ℕ) (l : List Zone) (x : Zone) (xs : List Zone) → drop i l ≡ x ∷ xs → (getElem? l i ≡ some x) × (drop (suc i) l ≡ xs)
@@ -37,14 +37,14 @@ unfolding scanned
 scanned-by c zs z s scan l g e = rw (scanned, scan .begins, scan .way) (e _ (scan .ends))
 
 -- of a superior's own zones these are left at place i
-pub record Left (c : Levels) (h : ℕ) (own later : List Zone) (out : List ℕ) (k i : ℕ) : Type 0 where
+pub record OwnLeft (c : Levels) (h : ℕ) (own later : List Zone) (out : List ℕ) (k i : ℕ) : Type 0 where
   pub rest : List Zone
   pub block : Block c h i rest later
   pub bars :
       foldl insertBar (take k out) (each (scanned c (overlapZones c)) rest) ≡ foldl insertBar [] (each (scanned c (overlapZones c)) own)
 
 -- of superior h's zones, which stand from place `from` on, those before place i are gathered
-pub record Gathering
+pub record ZonesSoFar
     (h : ℕ) (scans : List (List ℕ)) (n : Counts) (from : ℕ) (bars : List (List ℕ)) (prices : List (List Float)) (out : List ℕ) (k i : ℕ) : Type 0
   where
     pub wide : length out ≡ 257
@@ -53,11 +53,11 @@ pub record Gathering
         (c : Levels) (sups : List (List ℕ)) → Scanned c n bars prices sups scans → RisingAmong (endBars c) [] → RisingAmong (endBars c) (take k out)
     pub left :
         (c : Levels) (sups : List (List ℕ)) (own later : List Zone) → Scanned c n bars prices sups scans → Block c h from own later
-        → Left c h own later out k i
+        → OwnLeft c h own later out k i
 
 module _ (h : ℕ) (scans : List (List ℕ)) (n : Counts) (from : ℕ) (bars : List (List ℕ)) (prices : List (List Float)) where
-  pub gathering-first : (out : List ℕ) → length out ≡ 257 → Gathering h scans n from bars prices out 0 from
-  gathering-first out w =
+  pub bars-first : (out : List ℕ) → length out ≡ 257 → ZonesSoFar h scans n from bars prices out 0 from
+  bars-first out w =
       record {
         wide = w;
         low = omega arith;
@@ -65,7 +65,7 @@ module _ (h : ℕ) (scans : List (List ℕ)) (n : Counts) (from : ℕ) (bars : L
         left = λ c sups own later s b. record { rest = own; block = b; bars = refl };
       }
 
-  module _ (out : List ℕ) (k i : ℕ) (so-far : Gathering h scans n from bars prices out k i) where
+  module _ (out : List ℕ) (k i : ℕ) (so-far : ZonesSoFar h scans n from bars prices out k i) where
     -- where none of the superior's own can be left
     done :
         ((c : Levels) (sups : List (List ℕ)) (z : Zone) (rest later : List Zone) → Scanned c n bars prices sups scans → Block c h i (z ∷ rest) later → ⊥)
@@ -80,8 +80,8 @@ module _ (h : ℕ) (scans : List (List ℕ)) (n : Counts) (from : ℕ) (bars : L
         go (z ∷ rest) left e = absurd (no-more c sups z rest later s left)
 
     -- no zone is left
-    pub gathering-over : n .zones ≤ i → TakesBlock h n bars prices scans from k i out
-    gathering-over over =
+    pub bars-over : n .zones ≤ i → TakesBlock h n bars prices scans from k i out
+    bars-over over =
         done (λ c sups z rest later s b.
         let none = drop-of-length-le (overlapZones c) {i = i} (omega (arith, s .scans .count)) in
         omega (arith, ap (λ (m : List Zone). length m) (sym none ∙ b .stand)))
@@ -94,8 +94,8 @@ module _ (h : ℕ) (scans : List (List ℕ)) (n : Counts) (from : ℕ) (bars : L
       by-row c sups s z e = subst (ZoneScan c (overlapZones c) z) (sym read) (s .scans .are i z e)
 
       -- a zone of another superior
-      pub gathering-other : (scan .superior ≡ h → ⊥) → TakesBlock h n bars prices scans from k i out
-      gathering-other other =
+      pub bars-other : (scan .superior ≡ h → ⊥) → TakesBlock h n bars prices scans from k i out
+      bars-other other =
           done (λ c sups z rest later s b.
           let there = front i (overlapZones c) z (rest ++ later) (b .stand) in
           other (sym (by-row c sups s z (there .0) .own) ∙ all-at 0 z (b .owned) refl))
@@ -103,14 +103,14 @@ module _ (h : ℕ) (scans : List (List ℕ)) (n : Counts) (from : ℕ) (bars : L
       -- a zone of this one, whose bars are put in
       module _ (more : i < n .zones) (mine : scan .superior ≡ h) (r : ℕ) (out' : List ℕ) (put : PutsPairs (n .bigs) bars prices scan k out r out') where
         left-next :
-            (c : Levels) (sups : List (List ℕ)) (own later : List Zone) → Scanned c n bars prices sups scans → Left c h own later out k i
-            → Left c h own later out' r (i + 1)
+            (c : Levels) (sups : List (List ℕ)) (own later : List Zone) → Scanned c n bars prices sups scans → OwnLeft c h own later out k i
+            → OwnLeft c h own later out' r (i + 1)
         left-next c sups own later s l = go (l .rest) (l .block) (l .bars)
           where
             go :
                 (rest : List Zone) → Block c h i rest later
                 → foldl insertBar (take k out) (each (scanned c (overlapZones c)) rest) ≡ foldl insertBar [] (each (scanned c (overlapZones c)) own)
-                → Left c h own later out' r (i + 1)
+                → OwnLeft c h own later out' r (i + 1)
             go [] b e =
                 let z = lt-at (overlapZones c) i (omega (arith, s .scans .count)) in
                 let same : i + 0 ≡ i = omega arith in
@@ -132,8 +132,8 @@ module _ (h : ℕ) (scans : List (List ℕ)) (n : Counts) (from : ℕ) (bars : L
                       ∙ e;
                 }
 
-        pub gathering-next : r ≤ 257 → length out' ≡ 257 → Gathering h scans n from bars prices out' r (i + 1)
-        gathering-next low wide =
+        pub bars-next : r ≤ 257 → length out' ≡ 257 → ZonesSoFar h scans n from bars prices out' r (i + 1)
+        bars-next low wide =
             record {
               wide = wide;
               low = low;

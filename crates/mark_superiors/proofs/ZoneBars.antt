@@ -19,7 +19,7 @@ use Rattle.tables.specs.Tables.{Bigs}
 use Rattle.mark_scan.specs.declared.Pair.{Pair}
 use Rattle.mark_scan.specs.declared.Pair.the-variants.{At, Over}
 use Rattle.mark_scan.specs.declared.Scan.{Scan}
-use Rattle.mark_scan.specs.Scan.{Limits, Later, NextPair, pairsBy}
+use Rattle.mark_scan.specs.Scan.{Limits, NextPair, pairsBy}
 use Rattle.mark_rows.specs.Rows.{Room, Among}
 use Rattle.mark_superiors.specs.Superiors.{RisingAmong, PutsPairs}
 
@@ -49,11 +49,8 @@ pairs-end c stop d from = pairs-all (λ (b : ℕ). List·Memᴰ b (endBars c)) c
 
 -- ---- one zone
 
-pub pair-within : (at m next bar : ℕ) (r : Pair) → Later at m r → r ≡ At next bar → (at < next) × (next ≤ m) × (bar < 0x1_0000)
-pair-within at m next bar r behind e = subst (Later at m) e behind
-
 -- the scan has come to big `at`, and the first `count` bars have those of its pairs so far
-pub record Meeting
+pub record PairsSoFar
     (bars : List (List ℕ)) (prices : List (List Float)) (m : ℕ) (scan : Scan) (out₀ : List ℕ) (k : ℕ) (out : List ℕ) (count hint at : ℕ) : Type 0
   where
     pub wide : length out ≡ 257
@@ -66,23 +63,23 @@ pub record Meeting
         ≡ foldl insertBar (take k out₀) (pairEnds c stop (scan .direction) (drop (scan .from) (c .bigs)))
 
 module _ (bars : List (List ℕ)) (prices : List (List Float)) (m : ℕ) (scan : Scan) (out₀ : List ℕ) (k : ℕ) where
-  pub meeting-first : length out₀ ≡ 257 → k ≤ 257 → Meeting bars prices m scan out₀ k out₀ k 0 (scan .from)
-  meeting-first w l = record { wide = w; low = l; hinted = omega arith; among = λ c t a. a; left = λ c stop t lim. refl }
+  pub pairs-first : length out₀ ≡ 257 → k ≤ 257 → PairsSoFar bars prices m scan out₀ k out₀ k 0 (scan .from)
+  pairs-first w l = record { wide = w; low = l; hinted = omega arith; among = λ c t a. a; left = λ c stop t lim. refl }
 
-  module _ (out : List ℕ) (count hint at : ℕ) (so-far : Meeting bars prices m scan out₀ k out count hint at) where
+  module _ (out : List ℕ) (count hint at : ℕ) (so-far : PairsSoFar bars prices m scan out₀ k out count hint at) where
     -- there is room for one bar more
-    pub meeting-room : (c : Levels) → Bigs c m bars prices → RisingAmong (endBars c) (take k out₀) → count ≤ 256
-    meeting-room c t a = omega (arith, among-few (so-far .among c t a), length-take-le count out (omega (arith, so-far .wide, so-far .low)))
+    pub pairs-room : (c : Levels) → Bigs c m bars prices → RisingAmong (endBars c) (take k out₀) → count ≤ 256
+    pairs-room c t a = omega (arith, among-few (so-far .among c t a), length-take-le count out (omega (arith, so-far .wide, so-far .low)))
 
     -- no big is left
-    pub meeting-none : m ≤ at → PutsPairs m bars prices scan k out₀ count out
+    pub pairs-none : m ≤ at → PutsPairs m bars prices scan k out₀ count out
     unfolding pairEnds
-    meeting-none h c stop t lim = rw (drop-of-length-le (c .bigs) {i = at} (omega (arith, t .count))) at (so-far .left c stop t lim)
+    pairs-none h c stop t lim = rw (drop-of-length-le (c .bigs) {i = at} (omega (arith, t .count))) at (so-far .left c stop t lim)
 
     -- the next pair
     module _ (r : Pair) (pairs : NextPair m bars prices (scan .direction) (scan .limit) at r) where
-      pub meeting-over : r ≡ Over → PutsPairs m bars prices scan k out₀ count out
-      meeting-over e c stop t lim =
+      pub pairs-over : r ≡ Over → PutsPairs m bars prices scan k out₀ count out
+      pairs-over e c stop t lim =
           let none = pairs c stop t lim ∙ ap (pairsBy (pairEnds c stop (scan .direction)) (c .bigs)) e in
           sym (ap (foldl insertBar (take count out)) none) ∙ so-far .left c stop t lim
 
@@ -99,10 +96,10 @@ module _ (bars : List (List ℕ)) (prices : List (List Float)) (m : ℕ) (scan :
             (subst (λ (l : List ℕ). Among l (endBars c)) (here c stop t (λ b s. refl)) (pairs-end c stop (scan .direction) at))
             (List·Memᴰ·head refl)
 
-        pub meeting-next :
+        pub pairs-next :
             (count' hint' : ℕ) (out' : List ℕ) → take count' out' ≡ insertBar (take count out) bar → length out' ≡ length out
-            → count' ≤ 257 → hint' ≤ count' → Meeting bars prices m scan out₀ k out' count' hint' next
-        meeting-next count' hint' out' put long low hinted =
+            → count' ≤ 257 → hint' ≤ count' → PairsSoFar bars prices m scan out₀ k out' count' hint' next
+        pairs-next count' hint' out' put long low hinted =
             record {
               wide = long ∙ so-far .wide;
               low = low;
