@@ -4,13 +4,12 @@ use native.Mathlib.Omega.{arith}
 use native.Mathlib.Numerals.{add-one}
 use mathlib.Core.Path.{_≡_, refl, sym, ap, subst, _∙_}
 use mathlib.Core.Bool.{Bool, true, false, not}
-use mathlib.Core.List.{List, [], _∷_, map, foldl, List·Memᴰ, List·Memᴰ·head}
+use mathlib.Core.List.{List, [], _∷_, foldl, List·Memᴰ, List·Memᴰ·head}
 use mathlib.Core.Option.{Option, none, some}
 use lib.ListN.{take, drop}
 use lib.Dec.{leb}
 use lib.Ieee.{Float}
 use Rattle.chart.specs.declared.Stroke.{Stroke}
-use Rattle.chart.specs.declared.Triple.{Triple}
 use Rattle.chart.specs.declared.NMark.{NMark}
 use Rattle.rules.specs.Lists.{find, isNone, keep, before}
 use Rattle.rules.specs.Records.{Levels, Quotes}

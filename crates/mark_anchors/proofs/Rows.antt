@@ -3,16 +3,15 @@ use Prim.Native.Nat.{ℕ, _+_, _<_, _≤_}
 use native.Mathlib.Omega.{arith}
 use native.Mathlib.Numerals.{add-one}
 use mathlib.Core.Path.{_≡_, refl, sym, ap, subst, _∙_}
-use mathlib.Core.Bool.{Bool, not}
-use mathlib.Core.List.{List, [], _∷_, map, foldl, foldl-append}
+use mathlib.Core.Bool.{Bool}
+use mathlib.Core.List.{List, [], _∷_, foldl, foldl-append}
 use lib.ListN.{take, drop, getD, drop-of-length-le}
 use lib.Seq.{drop-cons}
 use lib.Ieee.{Float, nan}
 use Rattle.chart.specs.declared.Stroke.{Stroke}
 use Rattle.chart.specs.declared.NMark.{NMark}
-use Rattle.rules.specs.Lists.{each, collect}
+use Rattle.rules.specs.Lists.{each}
 use Rattle.rules.specs.Records.{Levels, Quotes}
-use Rattle.rules.specs.Ranges.{lastStroke}
 use Rattle.rules.specs.Marks.{push3N, anchorBars, anchorStop, anchorNumbered, reaches}
 use Rattle.laws.proofs.Lists.{lt-at, at-getD}
 use Rattle.tables.specs.Tables.{Bigs}

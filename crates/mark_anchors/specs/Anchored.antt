@@ -1,17 +1,14 @@
 -- What the hits behind an anchor stand for, and what they do to the gathered rows. Assumes nothing.
 use Prim.Native.Nat.{ℕ}
-use mathlib.Core.Path.{_≡_}
 use mathlib.Core.Bool.{Bool, not}
-use mathlib.Core.List.{List, _∷_, [], map, foldl, List·Memᴰ}
-use lib.ListN.{take, drop}
+use mathlib.Core.List.{List}
+use lib.ListN.{drop}
 use lib.Ieee.{Float}
-use Rattle.chart.specs.declared.Stroke.{Stroke}
-use Rattle.chart.specs.declared.Triple.{Triple}
 use Rattle.chart.specs.declared.NMark.{NMark}
-use Rattle.rules.specs.Lists.{keep, before, each, collect}
+use Rattle.rules.specs.Lists.{keep, before, each}
 use Rattle.rules.specs.Records.{Levels, Quotes}
-use Rattle.rules.specs.Ranges.{lastStroke, endPoint}
-use Rattle.rules.specs.Marks.{beats, numbered, push3N, reaches, anchorStop, anchorNumbered}
+use Rattle.rules.specs.Ranges.{endPoint}
+use Rattle.rules.specs.Marks.{beats, numbered, reaches, anchorStop, anchorNumbered}
 use Rattle.laws.specs.Lists.{endBars}
 use Rattle.tables.specs.declared.Counts.{Counts}
 use Rattle.tables.specs.Tables.{Bigs, Sups}

@@ -1,7 +1,7 @@
 -- The scan of a zone's pairs for its first hit, and the mark of a zone. Assumes nothing.
 use Prim.Native.Nat.{ℕ, _<_, _≤_}
 use native.Mathlib.Omega.{arith}
-use mathlib.Core.Path.{_≡_, ap, subst, _∙_}
+use mathlib.Core.Path.{_≡_, ap, _∙_}
 use mathlib.Core.Bool.{Bool, true, false, cond, not}
 use mathlib.Core.List.{List, [], _∷_}
 use mathlib.Core.Option.{Option, none, some}
@@ -19,7 +19,7 @@ use Rattle.tables.proofs.Zones.{no-zone, zd-of, zg-of}
 use Rattle.mark_scan.specs.declared.Scan.{Scan}
 use Rattle.mark_scan.specs.declared.Pair.{Pair}
 use Rattle.mark_scan.specs.declared.Pair.the-variants as pair
-use Rattle.mark_scan.specs.Scan.{Limits, pairsBy, Later, ZoneScan, scanIn, Scans}
+use Rattle.mark_scan.specs.Scan.{Limits, pairsBy, ZoneScan, scanIn, Scans}
 use Rattle.mark_hits.specs.declared.Hit.{Hit}
 use Rattle.mark_hits.specs.declared.Hit.the-variants.{At, Nothing}
 use Rattle.mark_hits.specs.Found.{hitBar, LentPrice}

@@ -1,20 +1,18 @@
 -- What the rows of third marks stand for while they are gathered. Assumes nothing.
 use Prim.Native.Nat.{ℕ, _+_, _<_, _≤_}
 use mathlib.Core.Path.{_≡_}
-use mathlib.Core.Bool.{Bool, true, false, not}
-use mathlib.Core.List.{List, [], _∷_, map, foldl}
+use mathlib.Core.Bool.{Bool, true, false}
+use mathlib.Core.List.{List, [], _∷_, foldl}
 use mathlib.Core.Option.{some}
-use lib.ListN.{length, take, drop, getD, getElem?}
+use lib.ListN.{length, drop, getD, getElem?}
 use lib.Dec.{ltb}
 use lib.Ieee.{Float, nan}
 use Rattle.chart.specs.declared.Ground.{Ground}
 use Rattle.chart.specs.declared.Ground.the-variants as ground
-use Rattle.chart.specs.declared.Stroke.{Stroke}
 use Rattle.chart.specs.declared.ThirdMark.{ThirdMark}
 use Rattle.chart.specs.declared.Zone.{Zone}
-use Rattle.rules.specs.Lists.{find, collect, each}
+use Rattle.rules.specs.Lists.{find, each}
 use Rattle.rules.specs.Records.{isUp, Levels, Quotes}
-use Rattle.rules.specs.Ranges.{lastStroke}
 use Rattle.rules.specs.Marks.{beats, pairEnds, zoneThird, anchorThird, addThird, thirdMarks}
 use Rattle.tables.specs.declared.Counts.{Counts}
 use Rattle.tables.specs.Tables.{Bigs, Zoned, Tables}

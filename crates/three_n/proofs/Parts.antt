@@ -3,7 +3,7 @@ use Prim.Native.Nat.{ℕ, zero, suc, _<_, _≤_}
 use native.Mathlib.Omega.{arith}
 use mathlib.Core.Path.{_≡_, refl, sym, ap, _∙_}
 use mathlib.Core.Bool.{false}
-use mathlib.Core.List.{List, [], _∷_, _++_, map, foldl}
+use mathlib.Core.List.{List, [], _∷_, map, foldl, foldl-append}
 use lib.ListN.{length, take, replicate, getElem?, length-map}
 use lib.Seq.{length-take-le}
 use lib.Dec.{leb}
@@ -87,10 +87,6 @@ module _ (c : Levels) (q : Quotes) (zeros : ℕ) (keys : List ℕ) (e : take zer
 
   -- ---- all rows
 
-  fold-append : (l a b : List NMark) → foldl push3N l (a ++ b) ≡ foldl push3N (foldl push3N l a) b
-  fold-append l [] b = refl
-  fold-append l (m ∷ a) b = fold-append (push3N l m) a b
-
   pub marks-are :
       (s : Side) → Anchoring c s → (zero-rows superior-marks all-marks : List NMark) → zero-rows ≡ map orderZero thirds
       → superior-marks ≡ foldl push3N zero-rows (superiorsNumbered c q (overlapZones c) thirds 0 (c .superiors))
@@ -100,5 +96,5 @@ module _ (c : Levels) (q : Quotes) (zeros : ℕ) (keys : List ℕ) (e : take zer
   marks-are s side zero-rows superior-marks all-marks z m a =
       rw (a, side .anchors, side .buy, m, z)
       (sym
-      (fold-append (map orderZero thirds) (superiorsNumbered c q (overlapZones c) thirds 0 (c .superiors))
+      (foldl-append push3N (map orderZero thirds) (superiorsNumbered c q (overlapZones c) thirds 0 (c .superiors))
       (each (anchorNumbered c q (anchorSide (c .superiors))) (anchorsOf c (c .superiors)))))

@@ -35,7 +35,8 @@ returns-2 c =
     let most = c .before .before in
     let wide = most .before in (
       (refl, omega (arith, most .at-most .ensures)),
-      λ l long t. side-some (wide .before .before .before .before .args .counts) _ l long t (wide .before .before .if1 .left) _ _ _ (wide .wide .ensures .0) (most .at-most .ensures) (c .is-way .ensures),
+      λ l long t. side-some (wide .before .before .before .before .args .counts) _ l long t (wide .before .before .if1 .left) _ _ _
+          (wide .wide .ensures .0) (most .at-most .ensures) (c .is-way .ensures),
     )
 
 pub side-of-spec : {M : Type 1} → statement M

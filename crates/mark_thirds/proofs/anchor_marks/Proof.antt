@@ -6,11 +6,9 @@ use mathlib.Core.List.{List, [], foldl}
 use lib.ListN.{length, take}
 use borrow.Author.Needs.{needs}
 use borrow.Author.Tests.{le-ltb}
-use Rattle.chart.specs.declared.Stroke.{Stroke}
 use Rattle.chart.specs.declared.ThirdMark.{ThirdMark}
-use Rattle.rules.specs.Lists.{collect, each}
+use Rattle.rules.specs.Lists.{each}
 use Rattle.rules.specs.Records.{Levels, Quotes}
-use Rattle.rules.specs.Ranges.{lastStroke}
 use Rattle.rules.specs.Marks.{addThird, anchorThird}
 use Rattle.levels.proofs.Read.{no-stroke}
 use Rattle.tables.specs.Tables.{Bigs}
