@@ -3,11 +3,11 @@ use Prim.Native.Nat.{ℕ, zero, suc, _+_, _*_, _/_, _%_, _<_, _≤_}
 use native.Mathlib.Omega.{arith}
 use native.Mathlib.Numerals.{add-one}
 use mathlib.Core.Path.{_≡_, refl, sym, ap, subst, _∙_}
-use mathlib.Core.Bool.{Bool, true, false, cond, _&&_, _||_, or-false, Bool·beq}
+use mathlib.Core.Bool.{Bool, true, false, cond, _&&_, Bool·beq}
 use mathlib.Core.List.{List, [], _∷_, _++_, map, foldl, append-nil}
 use mathlib.Core.Logic.{_⊎_, inl, inr}
 use mathlib.Core.Option.{some}
-use lib.ListN.{length, getD, getElem?, set, take, drop}
+use lib.ListN.{length, getD, getElem?, set, take}
 use lib.Seq.{getD-set-same, getD-set-other, take-suc, take-all}
 use lib.Ieee.{Float}
 use lib.Dec.{eqb, ltb}
@@ -17,28 +17,12 @@ use Rattle.rules.specs.Lists.{any, each}
 use Rattle.rules.specs.Marks.{addThird}
 use Rattle.laws.proofs.Tests.{none-some, length-snoc}
 use Rattle.laws.proofs.Lists.{at-lt, each-append}
-use Rattle.laws.proofs.Arrays.{left-more, left-none}
 use Rattle.mark_rows.specs.Rows.{keyOf, barIn, sideIn, rowKey}
 use Rattle.mark_rows.proofs.Gathered.{key-bar, key-side, key-same}
 use Rattle.mark_hits.proofs.Anchors.{snoc-at}
 use Rattle.mark_hits.specs.declared.Hit.{Hit}
 use Rattle.mark_hits.specs.declared.Hit.the-variants.{At, Nothing}
 use Rattle.mark_thirds.specs.Third.{thirdIn, Marked, OnBar, hitMarks}
-
--- ---- whether one of the first n passes: `met` is whether one before place i does, and those from there on are left to look at
-
-or-assoc : (a b c : Bool) → ((a || b) || c) ≡ (a || (b || c))
-or-assoc true b c = refl
-or-assoc false b c = refl
-
-module _
-    {A : Type 0} (p : A → Bool) (n i : ℕ) (xs : List A) (met all : Bool) (long : n ≤ length xs) (left : (met || any p (drop i (take n xs))) ≡ all)
-  where
-    pub any-none : n ≤ i → met ≡ all
-    any-none h = sym (or-false met) ∙ rw (left-none n i xs h long) at left
-
-    pub any-more : (d : A) → i < n → (met || p (getD xs i d) || any p (drop (i + 1) (take n xs))) ≡ all
-    any-more d h = or-assoc met (p (getD xs i d)) (any p (drop (i + 1) (take n xs))) ∙ rw (left-more n i xs d h long) at left
 
 -- ---- keys
 

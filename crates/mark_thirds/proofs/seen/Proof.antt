@@ -7,7 +7,7 @@ use lib.ListN.{take, drop}
 use lib.Dec.{eqb}
 use borrow.Author.Needs.{needs}
 use Rattle.rules.specs.Lists.{any}
-use Rattle.mark_thirds.proofs.Marked.{any-more, any-none}
+use Rattle.levels.proofs.Tests.{met-more, met-none}
 use Rattle.mark_thirds.proofs.seen.Statement.{statement}
 use Rattle.mark_thirds.proofs.seen.Tie as tie
 
@@ -21,38 +21,32 @@ abbrev μ-loop : tie.MeasureT-loop
 loop-holds : tie.Need-loop-holds Inv-loop μ-loop
 loop-holds c = (omega arith, refl)
 
--- src/lib.rt:28:22
 mul-met : tie.Need-mul-met Inv-loop μ-loop
 mul-met c = search needs
 
--- src/lib.rt:28:22
 shared-slice-read-met : tie.Need-shared-slice-read-met Inv-loop μ-loop
 shared-slice-read-met c = search needs
 
--- src/lib.rt:29:9
 add-i : tie.Need-add-i Inv-loop μ-loop
 add-i c = search needs
 
--- src/lib.rt:27:5
 loop-less : tie.Need-loop-less Inv-loop μ-loop
 loop-less c = search needs
 
--- src/lib.rt:27:5
 loop-again : tie.Need-loop-again Inv-loop μ-loop
 loop-again c =
     let in-loop = c .before in
     let head = in-loop .before in
     let args = head .before .args in (
       omega arith,
-      any-more (λ (k : ℕ). eqb k (args .key)) _ (head .loop .i) (args .keys .now) (head .loop .met) _ (head .before .pre) (head .loop .inv .1) 0 (in-loop .loop-test .taken),
+      met-more (λ (k : ℕ). eqb k (args .key)) _ (head .loop .i) (args .keys .now) (head .loop .met) _ (head .before .pre) (head .loop .inv .1) 0 (in-loop .loop-test .taken),
     )
 
--- src/lib.rt:21:1
 returns : tie.Need-returns Inv-loop μ-loop
 returns c =
     let head = c .before in
     let args = head .before .args in
-    any-none (λ (k : ℕ). eqb k (args .key)) _ (head .loop .i) (args .keys .now) (head .loop .met) _ (head .before .pre) (head .loop .inv .1) (c .loop-test .left)
+    met-none (λ (k : ℕ). eqb k (args .key)) _ (head .loop .i) (args .keys .now) (head .loop .met) _ (head .before .pre) (head .loop .inv .1) (c .loop-test .left)
 
 pub seen-spec : {M : Type 1} → statement M
 seen-spec =

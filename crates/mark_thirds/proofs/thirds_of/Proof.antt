@@ -1,5 +1,4 @@
 -- `mark_thirds::thirds_of` meets its contract. Assumes nothing.
-use native.Mathlib.Omega.{arith}
 use mathlib.Core.Path.{_∙_}
 use borrow.Author.Needs.{needs}
 use Rattle.mark_thirds.proofs.Whole.{marked-whole}
