@@ -89,11 +89,11 @@ module _ (sups scans bars : List (List ℕ)) (prices : List (List Float)) (n : C
               (bars-all (λ (b : ℕ). List·Memᴰ b (endBars c)) c (ends-there c (c .bigs)) (overlapZones c) i)
 
         pub rows-next :
-            (buy : Bool) → buy ≡ isUp (getD (getD sups i []) 0 0) → (r : ℕ) (keys' orders' : List ℕ) → length out' ≡ 257
+            (buy : Bool) (r : ℕ) (keys' orders' : List ℕ) → length out' ≡ 257
             → NumbersBars (take k out') buy zeros count keys orders r keys' orders' → KeepsRoom (Among (take k out')) keys count keys' r
-            → Grown count keys orders r keys' orders'
+            → Grown count keys orders r keys' orders' → buy ≡ isUp (getD (getD sups i []) 0 0)
             → RowsSoFar sups scans bars prices n zeros keys₀ orders₀ keys' orders' out' r next (i + 1)
-        rows-next buy side r keys' orders' wide marks room grown =
+        rows-next buy r keys' orders' wide marks room grown side =
             record {
               within = omega arith;
               wide = wide;

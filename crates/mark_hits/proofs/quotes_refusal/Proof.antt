@@ -1,4 +1,5 @@
 -- `mark_hits::quotes_refusal` meets its contract. Assumes nothing.
+use native.Mathlib.Omega.{arith}
 use mathlib.Core.Path.{sym, _∙_}
 use borrow.Author.Tests.{not-true, not-false}
 use Rattle.mark_hits.proofs.Lent.{refuse-unequal, refuse-long, refuse-prices, refuse-none}
@@ -10,7 +11,7 @@ returns : tie.Need-returns
 returns c = refuse-unequal _ _ 0 (c .if1 .taken)
 
 returns-2 : tie.Need-returns-2
-returns-2 c = refuse-long _ _ 0 (c .before .if1 .left) (c .if2 .taken)
+returns-2 c = refuse-long _ _ 0 (c .before .if1 .left) (omega (arith, c .if2 .taken))
 
 both-prices-requires : tie.Need-both-prices-requires
 both-prices-requires c κs = search needs
@@ -18,12 +19,12 @@ both-prices-requires c κs = search needs
 returns-3 : tie.Need-returns-3
 returns-3 c =
     let at2 = c .before .before in
-    refuse-prices _ _ 0 (at2 .before .if1 .left) (at2 .if2 .left) (sym (c .before .both-prices .ensures) ∙ not-true _ (c .if3 .taken))
+    refuse-prices _ _ 0 (at2 .before .if1 .left) (omega (arith, at2 .if2 .left)) (sym (c .before .both-prices .ensures) ∙ not-true _ (c .if3 .taken))
 
 returns-4 : tie.Need-returns-4
 returns-4 c =
     let at2 = c .before .before in
-    refuse-none _ _ 0 (at2 .before .if1 .left) (at2 .if2 .left) (sym (c .before .both-prices .ensures) ∙ not-false _ (c .if3 .left))
+    refuse-none _ _ 0 (at2 .before .if1 .left) (omega (arith, at2 .if2 .left)) (sym (c .before .both-prices .ensures) ∙ not-false _ (c .if3 .left))
 
 pub quotes-refusal-spec : {M : Type 1} → statement M
 quotes-refusal-spec = tie.close (tie.spec returns returns-2 both-prices-requires returns-3 returns-4)

@@ -1,4 +1,5 @@
 -- `mark_rows::place_near` meets its contract. Assumes nothing.
+use native.Mathlib.Omega.{arith}
 use borrow.Author.Needs.{needs}
 use Rattle.mark_rows.proofs.Places.{guessed-place}
 use Rattle.mark_rows.proofs.place_near.Statement.{statement}
@@ -14,7 +15,7 @@ returns : tie.Need-returns
 returns c =
     let near = c .before .before in
     let pre = near .before .before .pre in
-    guessed-place _ _ _ _ (pre .0) (pre .1) (near .if1 .taken) (c .if2 .taken)
+    guessed-place _ _ _ _ (pre .0) (pre .1) (near .if1 .taken) (omega (arith, c .if2 .taken))
 
 place-of-requires : tie.Need-place-of-requires
 place-of-requires c κs = c .before .before .pre .0

@@ -1,4 +1,5 @@
 -- `mark_rows::price_at` meets its contract. Assumes nothing.
+use mathlib.Core.Path.{refl}
 use borrow.Author.Needs.{needs}
 use Rattle.rules.specs.Marks.{priceAt}
 use Rattle.mark_rows.proofs.price_at.Statement.{statement}
@@ -12,7 +13,7 @@ shared-slice-read-result c = search needs
 
 returns : tie.Need-returns
 unfolding priceAt
-returns c = rw (c .before .if1 .taken)
+returns c = rw (c .before .if1 .taken) refl
 
 mul-result-2 : tie.Need-mul-result-2
 mul-result-2 c = search needs
@@ -22,7 +23,7 @@ shared-slice-read-result-2 c = search needs
 
 returns-2 : tie.Need-returns-2
 unfolding priceAt
-returns-2 c = rw (c .before .if1 .left)
+returns-2 c = rw (c .before .if1 .left) refl
 
 pub price-at-spec : {M : Type 1} → statement M
 price-at-spec =

@@ -22,7 +22,7 @@ returns-2 : tie.Need-returns-2
 returns-2 c =
     let some = c .before .before in
     let pre = some .before .pre in
-    (omega arith, below-hint _ _ _ _ (pre .0) (pre .1) (pre .2) (some .if1 .taken) (c .if2 .left))
+    (omega arith, below-hint _ _ _ _ (pre .0) (pre .1) (pre .2) (some .if1 .taken) (omega (arith, c .if2 .left)))
 
 returns-3 : tie.Need-returns-3
 returns-3 c =

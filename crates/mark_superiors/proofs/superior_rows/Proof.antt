@@ -96,7 +96,7 @@ loop-again c =
     let block = met .superior-bars .result in
     let got = met .superior-bars .ensures in
     rows-next _ _ _ _ _ _ _ _ _ _ _ _ _ _ (head (turn met) .loop .inv) (turn met .if1 .taken) (block .count) (block .next) (bars-of met)
-    (got .1) _ refl _ _ _ (got .0 .1) (rows .0) (rows .1 .0) (rows .1 .1)
+    (got .1) _ _ _ _ (got .0 .1) (rows .0) (rows .1 .0) (rows .1 .1) refl
 
 same-length : tie.Need-same-length Inv-loop μ-loop
 same-length c = search needs
