@@ -1,13 +1,13 @@
--- Laws of the bigs whose bars touch a zone's: one range by its bars, and how many of those that are left. Assumes nothing.
-use mathlib.Core.Path.{_≡_, refl}
-use mathlib.Core.Bool.{Bool, true, false, cond}
-use mathlib.Core.List.{List, [], _∷_}
+-- Laws of the columns of bars: how they are filled, and that a range's bars touch a zone's where the columns' do. Assumes nothing.
+use mathlib.Core.Path.{_≡_, refl, sym, _∙_}
+use mathlib.Core.Bool.{Bool, true, false, cond, _&&_}
+use mathlib.Core.List.{List, [], _∷_, _++_, map}
 use Prim.Native.Nat.{ℕ, suc, _+_, _≤_, _<_}
 use native.Mathlib.Numerals.{add-one}
 use native.Mathlib.Omega.{arith}
-use lib.ListN.{drop, getD, drop-of-length-le}
-use lib.Seq.{drop-cons}
-use lib.Dec.{leb}
+use lib.ListN.{length, take, drop, set, getD}
+use lib.Seq.{take-suc, take-all}
+use lib.Dec.{leb, eqb, leb·suc-zero, leb·suc-suc}
 use lib.Ieee.{Float}
 use borrow.Author.Tests.{lt-leb, le-leb}
 use Rattle.chart.specs.declared.Triple.{Triple}
@@ -19,67 +19,106 @@ use Rattle.rules.specs.Lists.{count}
 use Rattle.rules.specs.Records.{Levels}
 use Rattle.rules.specs.Ranges.{rangeOf}
 use Rattle.rules.specs.Labels.{touches}
+use Rattle.laws.proofs.Lists.{map-append}
+use Rattle.laws.proofs.Arrays.{one-more, left-more, left-none}
 use Rattle.levels.proofs.Read.{no-triple}
 use Rattle.tables.specs.Tables.{rangeIn, Bigs}
 use Rattle.tables.proofs.Bigs.{range-is}
-use Rattle.labels.specs.Touching.{touchesRange}
+use Rattle.labels.specs.Touching.{touchesRange, startOf, endOf, BarColumns, touch, touching}
 
--- ---- one range
+-- ---- the bars of a range
 
-module _ (z : Zone) (x : Range) where
-  abbrev touched : ℕ
-  touched = cond (touchesRange z x) 1 0
+pub bars-found : (x : Range) (s : Span) → x ≡ Found s → (s .«start_bar» + 1 ≡ startOf x) × (s .«end_bar» + 1 ≡ endOf x)
+bars-found x s e = (rw (e, add-one), rw (e, add-one))
 
-  pub touch-missing : x ≡ Missing → 0 ≡ touched
-  unfolding touchesRange
-  touch-missing e = rw e
+-- ---- the columns of the bigs in the tables
 
-  module _ (s : Span) (e : x ≡ Found s) where
-    pub touch-both : s .«start_bar» ≤ z .«end_bar» → leb (z .«start_bar») (s .«end_bar») ≡ true → 1 ≡ touched
-    unfolding touchesRange
-    touch-both h k = rw (e, le-leb _ _ h, k)
+module _
+    (c : Levels) (m : ℕ) (bars : List (List ℕ)) (prices : List (List Float)) (t : Bigs c m bars prices) (k : ℕ) (ss es : List ℕ)
+    (done : BarColumns k ss es (map (rangeOf c) (take k (c .bigs))))
+  where
+    -- one more
+    pub columns-more :
+        (x : Range) (s e : ℕ) → k < m → k < length ss → k < length es → x ≡ rangeIn (getD bars k []) (getD prices k [])
+        → s ≡ startOf x → e ≡ endOf x → BarColumns (k + 1) (set ss k s) (set es k e) (map (rangeOf c) (take (k + 1) (c .bigs)))
+    columns-more x s e h v w is f g =
+        let one : map (rangeOf c) (take (k + 1) (c .bigs)) ≡ map (rangeOf c) (take k (c .bigs)) ++ (x ∷ []) =
+            rw (is, range-is c m bars prices t k h, add-one k, take-suc (c .bigs) k no-triple (omega (arith, t .count)), map-append) in
+        rw one (record {
+          by-start = rw (one-more ss k s v, map-append, done .by-start, f);
+          by-end = rw (one-more es k e w, map-append, done .by-end, g);
+        })
 
-    pub touch-behind : z .«end_bar» < s .«start_bar» → 0 ≡ touched
-    unfolding touchesRange
-    touch-behind h = rw (e, lt-leb _ _ h)
+    -- all of them
+    pub columns-all : m ≤ k → k ≤ m → BarColumns m ss es (map (rangeOf c) (c .bigs))
+    columns-all over most =
+        let same : k ≡ m = omega arith in
+        let all : take m (c .bigs) ≡ c .bigs = take-all m (c .bigs) (omega (arith, t .count)) in
+        rw (same, all) at done
 
-    pub touch-before : s .«start_bar» ≤ z .«end_bar» → leb (z .«start_bar») (s .«end_bar») ≡ false → 0 ≡ touched
-    unfolding touchesRange
-    touch-before h k = rw (e, le-leb _ _ h, k)
+-- ---- bars that touch
 
-  pub touch-most : (r : ℕ) → r ≡ touched → r ≤ 1
-  touch-most r = go (touchesRange z x)
+module _ (from to s e : ℕ) where
+  pub touch-both : s ≤ to → leb from e ≡ true → 1 ≡ touch from to s e
+  unfolding touch
+  touch-both h k = rw (le-leb s to h, k)
+
+  pub touch-behind : to < s → 0 ≡ touch from to s e
+  unfolding touch
+  touch-behind h = rw (lt-leb s to h)
+
+  pub touch-before : s ≤ to → leb from e ≡ false → 0 ≡ touch from to s e
+  unfolding touch
+  touch-before h k = rw (le-leb s to h, k)
+
+  pub touch-most : (r : ℕ) → r ≡ touch from to s e → r ≤ 1
+  unfolding touch
+  touch-most r h = go (leb s to && leb from e) h
     where
       go : (t : Bool) → r ≡ cond t 1 0 → r ≤ 1
-      go true e = omega arith
-      go false e = omega arith
+      go true q = omega arith
+      go false q = omega arith
 
--- a big touches by its range
+-- one more place of the columns counted
+module _ (from to m k n : ℕ) (ss es : List ℕ) (all : ℕ) (p : m ≤ length ss) (q : m ≤ length es) where
+  pub touching-next :
+      (r : ℕ) → k < m → r ≡ touch from to (getD ss k 0) (getD es k 0)
+      → n + touching from to (drop k (take m ss)) (drop k (take m es)) ≡ all
+      → n + r + touching from to (drop (k + 1) (take m ss)) (drop (k + 1) (take m es)) ≡ all
+  touching-next r h e i = omega (arith, rw (left-more m k ss 0 h p, left-more m k es 0 h q) at i)
+
+  pub touching-end : m ≤ k → n + touching from to (drop k (take m ss)) (drop k (take m es)) ≡ all → n ≡ all
+  touching-end over i = omega (arith, rw (left-none m k ss over p) at i)
+
+-- ---- ranges that touch a zone, bars counted from 1
+
+touch-range : (z : Zone) (x : Range) → touch (suc (z .«start_bar»)) (suc (z .«end_bar»)) (startOf x) (endOf x) ≡ cond (touchesRange z x) 1 0
+unfolding touchesRange touch
+touch-range z Missing = sym (touch-before (suc (z .«start_bar»)) (suc (z .«end_bar»)) 0 0 (omega arith) (leb·suc-zero (z .«start_bar»)))
+touch-range z (Found r) = rw (leb·suc-suc (r .«start_bar») (z .«end_bar»), leb·suc-suc (z .«start_bar») (r .«end_bar»))
+
+touching-count :
+    (z : Zone) (xs : List Range) → touching (suc (z .«start_bar»)) (suc (z .«end_bar»)) (map startOf xs) (map endOf xs) ≡ count (touchesRange z) xs
+touching-count z [] = refl
+touching-count z (x ∷ xs) = rw (touch-range z x, touching-count z xs) (go (touchesRange z x) (count (touchesRange z) xs))
+  where
+    go : (t : Bool) (n : ℕ) → cond t 1 0 + n ≡ cond t (suc n) n
+    go true n = omega arith
+    go false n = omega arith
+
+-- the count of columns is that of the ranges whose bars they have
+pub lone-columns :
+    (z : Zone) (m n : ℕ) (ss es : List ℕ) (ranges : List Range) → BarColumns m ss es ranges
+    → n ≡ touching (z .«start_bar» + 1) (z .«end_bar» + 1) (take m ss) (take m es) → eqb n 1 ≡ eqb (count (touchesRange z) ranges) 1
+lone-columns z m n ss es ranges columns e =
+    rw (e, columns .by-start, columns .by-end, add-one (z .«start_bar»), add-one (z .«end_bar»), touching-count z ranges)
+
+-- ---- of rules
+
 touches-range : (c : Levels) (z : Zone) (b : Triple) → touches c z b ≡ touchesRange z (rangeOf c b)
 unfolding touches touchesRange
 touches-range c z b = refl
 
--- ---- how many touch, behind the first k bigs in the tables
-
--- one more
-add-test : (t : Bool) (n rest all r : ℕ) → r ≡ cond t 1 0 → n + cond t (suc rest) rest ≡ all → n + r + rest ≡ all
-add-test true n rest all r e h = omega arith
-add-test false n rest all r e h = omega arith
-
-module _
-    (c : Levels) (m : ℕ) (bars : List (List ℕ)) (prices : List (List Float)) (t : Bigs c m bars prices) (z : Zone) (k n all : ℕ)
-    (left : n + count (touches c z) (drop k (c .bigs)) ≡ all)
-  where
-    abbrev b : Triple
-    b = getD (c .bigs) k no-triple
-
-    pub count-next :
-        (r : ℕ) → k < m → r ≡ cond (touchesRange z (rangeIn (getD bars k []) (getD prices k []))) 1 0
-        → n + r + count (touches c z) (drop (k + 1) (c .bigs)) ≡ all
-    count-next r h e =
-        let one : drop k (c .bigs) ≡ b ∷ drop (k + 1) (c .bigs) = rw (add-one k) (drop-cons (c .bigs) k no-triple (omega (arith, t .count))) in
-        let test : r ≡ cond (touches c z b) 1 0 = rw (touches-range c z b, ← range-is c m bars prices t k h) e in
-        add-test (touches c z b) n (count (touches c z) (drop (k + 1) (c .bigs))) all r test (rw one at left)
-
-    pub count-end : m ≤ k → n ≡ all
-    count-end h = let none = drop-of-length-le (c .bigs) {i = k} (omega (arith, t .count)) in omega (arith, rw none at left)
+pub count-touches : (c : Levels) (z : Zone) (bs : List Triple) → count (touchesRange z) (map (rangeOf c) bs) ≡ count (touches c z) bs
+count-touches c z [] = refl
+count-touches c z (b ∷ bs) = rw (touches-range c z b, count-touches c z bs)

@@ -4,20 +4,23 @@ use chart::Label;
 use chart::Range;
 use chart::Zone;
 ghost use mathlib.Core.Path.{_≡_};
-ghost use mathlib.Core.Bool.{cond};
 ghost use Prim.Native.Nat.{_+_, _≤_, _<_};
 ghost use mathlib.Core.List.{List, [], _∷_, map};
 ghost use mathlib.Core.Option.{none};
+ghost use lib.ListN.{length};
 ghost use lib.Dec.{eqb};
+ghost use Rattle.chart.specs.declared.Range.{Range};
 ghost use Rattle.chart.specs.declared.Zone.{Zone};
 ghost use Rattle.rules.specs.Answer.{refused, given, rowsAnswer};
 ghost use Rattle.rules.specs.Lists.{count};
 ghost use Rattle.rules.specs.Records.{Levels};
-ghost use Rattle.rules.specs.Labels.{touches, letter, colName, nameOf, labelsFrom};
+ghost use Rattle.rules.specs.Ranges.{rangeOf};
+ghost use Rattle.rules.specs.Labels.{letter, colName, nameOf, labelsFrom};
 ghost use Rattle.rules.specs.Calls.{labelsCall};
+ghost use Rattle.tables.specs.Rows.{Wide};
 ghost use Rattle.tables.specs.Tables.{Bigs, Zoned};
 ghost use Rattle.labels.specs.Bytes.{labelBytes, Extends};
-ghost use Rattle.labels.specs.Touching.{touchesRange};
+ghost use Rattle.labels.specs.Touching.{touchesRange, startOf, endOf, BarColumns, touch};
 ghost use Rattle.labels.specs.Steps.{namedIn, nextName, nameIn, mark, nameBytes, LabelOf};
 
 // The answer of the label call: a number, and where it is 0 the first `count` rows.
@@ -70,33 +73,81 @@ pub fn col_name(n: u64) -> Label
     with_name(NO_LABEL, n)
 }
 
-// 1 where a range's bars touch a zone's, else 0. A missing range has no bars.
-fn touches(zone: Zone, range: Range) -> u16
-    ensures { λ r. ⌜ r ≡ cond (touchesRange zone range) 1 0 ⌝ }
+// ---- columns of bars
+
+// The bars of ranges, in two columns. They are made once a call: a loop over plain columns looks at several ranges at a time, which one
+// over the rows of the tables cannot.
+struct Bars {
+    starts: [u32; 256],
+    ends: [u32; 256],
+}
+
+// The bars of one range.
+struct Bar {
+    start: u32,
+    end: u32,
+}
+
+// A range's bars, counted from 1. A missing range has 0 and 0, so that it ends before every zone.
+fn bar_of(range: Range) -> Bar
+    ensures { λ r. ⌜ (r .start ≡ startOf range) × (r .end ≡ endOf range) ⌝ }
 {
     let Range::Found(s) = range else {
-        return 0;
+        return Bar { start: 0, end: 0 };
     };
-    if s.start_bar <= zone.end_bar && zone.start_bar <= s.end_bar {
-        1
-    } else {
-        0
+    Bar {
+        start: s.start_bar as u32 + 1,
+        end: s.end_bar as u32 + 1,
     }
 }
 
-// Whether exactly one of the m bigs in the tables touches the zone.
-fn lone(bars: &[[u16; 6]; 256], prices: &[[f64; 3]; 256], m: usize, zone: Zone) -> bool
+// The bars of the m bigs in the tables.
+fn bars_of(bars: &[[u16; 6]; 256], prices: &[[f64; 3]; 256], m: usize) -> Bars
     requires { ⌜ m ≤ 256 ⌝ }
-    ensures { λ r. ⌜ ((c : Levels) → Bigs c m (now (bars .entry)) (now (prices .entry)) → r ≡ eqb (count (touches c zone) (c .bigs)) 1) ⌝ }
+    ensures { λ r. ⌜ Wide (r .starts) (r .ends) ⌝ }
+    ensures { λ r. ⌜ ((c : Levels) → Bigs c m (now (bars .entry)) (now (prices .entry))
+        → BarColumns m (r .starts) (r .ends) (map (rangeOf c) (c .bigs))) ⌝ }
 {
-    let mut n: u16 = 0;
+    let mut starts = [0u32; 256];
+    let mut ends = [0u32; 256];
     let mut k = 0usize;
     while k < m {
-        n += touches(zone, tables::range_at(bars, prices, k));
+        let bar = bar_of(tables::range_at(bars, prices, k));
+        starts[k] = bar.start;
+        ends[k] = bar.end;
+        k += 1;
+    }
+    Bars {
+        starts: starts,
+        ends: ends,
+    }
+}
+
+// 1 where a range's bars (start, end) touch a zone's (from, to), else 0.
+fn touches(from: u32, to: u32, start: u32, end: u32) -> u16
+    ensures { λ r. ⌜ r ≡ touch from to start end ⌝ }
+{
+    if start <= to && from <= end { 1 } else { 0 }
+}
+
+// Whether exactly one of m ranges, given by the columns of their bars, touches the zone. No test ends the loop.
+fn lone(starts: &[u32], ends: &[u32], m: usize, zone: Zone) -> bool
+    requires { ⌜ (m ≤ 256) × (m ≤ length (now starts)) × (m ≤ length (now ends)) ⌝ }
+    ensures { λ r. ⌜ ((ranges : List Range) → BarColumns m (now (starts .entry)) (now (ends .entry)) ranges
+        → r ≡ eqb (count (touchesRange zone) ranges) 1) ⌝ }
+{
+    let from = zone.start_bar as u32 + 1;
+    let to = zone.end_bar as u32 + 1;
+    let mut n: u16 = 0;
+    let mut k = 0;
+    while k < m {
+        n += touches(from, to, starts[k], ends[k]);
         k += 1;
     }
     n == 1
 }
+
+// ---- names
 
 // A superior's last named zone, and its next name.
 enum Last {
@@ -185,12 +236,15 @@ fn labels_of(
     ensures { λ r. ⌜ ((c : Levels) (zs : List Zone) → Bigs c m (now (bars .entry)) (now (prices .entry)) → Zoned zs n (now (zb .entry)) (now (zp .entry))
         → rowsAnswer (r .number) (r .count) (map labelBytes (r .rows)) ≡ given (labelsFrom c none zs)) ⌝ }
 {
+    let columns = bars_of(bars, prices, m);
+    let starts = columns.starts;
+    let ends = columns.ends;
     let mut rows = [NO_LABEL; 256];
     let mut last = Last::Nothing;
     let mut k = 0usize;
     while k < n {
         let zone = tables::zone_at(zb, zp, k);
-        let alone = lone(bars, prices, m, zone);
+        let alone = lone(&starts, &ends, m, zone);
         let next = label_of(last, zone, alone);
         let label = next.label;
         rows[k] = label;

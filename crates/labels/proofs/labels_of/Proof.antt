@@ -13,18 +13,22 @@ use Rattle.rules.specs.Labels.{labelsFrom}
 use Rattle.tables.specs.Tables.{Bigs, Zoned}
 use Rattle.labels.specs.Bytes.{labelBytes}
 use Rattle.labels.specs.Steps.{namedIn, nextName}
+use Rattle.labels.proofs.Touching.{count-touches}
 use Rattle.labels.proofs.Steps.{label-next, labels-step, labels-end}
 use Rattle.labels.proofs.labels_of.Statement.{statement}
 use Rattle.labels.proofs.labels_of.Tie as tie
 
 abbrev Inv-loop : tie.InvT-loop
-Inv-loop zb zp n bars prices m rows₀ last₀ k₀ rows last k =
+Inv-loop zb zp n bars prices m starts ends rows₀ last₀ k₀ rows last k =
     (k ≤ n) × (length rows ≡ 256) × (nextName (namedIn last) ≤ k)
     × ((c : Levels) (zs : List Zone) → Bigs c m bars prices → Zoned zs n zb zp
     → map labelBytes (take k rows) ++ labelsFrom c (namedIn last) (drop k zs) ≡ labelsFrom c none zs)
 
 abbrev μ-loop : tie.MeasureT-loop
-μ-loop zb zp n bars prices m rows₀ last₀ k₀ rows last k = n - k
+μ-loop zb zp n bars prices m starts ends rows₀ last₀ k₀ rows last k = n - k
+
+bars-of-requires : tie.Need-bars-of-requires Inv-loop μ-loop
+bars-of-requires c κs = search needs
 
 loop-holds : tie.Need-loop-holds Inv-loop μ-loop
 loop-holds c = (search needs, refl, search needs, λ l zs t z. refl)
@@ -32,8 +36,16 @@ loop-holds c = (search needs, refl, search needs, λ l zs t z. refl)
 zone-at-requires : tie.Need-zone-at-requires Inv-loop μ-loop
 zone-at-requires c κs = search needs
 
+slice-aggregate-lone : tie.Need-slice-aggregate-lone Inv-loop μ-loop
+slice-aggregate-lone c = search needs
+
+slice-aggregate-lone-2 : tie.Need-slice-aggregate-lone-2 Inv-loop μ-loop
+slice-aggregate-lone-2 c = search needs
+
 lone-requires : tie.Need-lone-requires Inv-loop μ-loop
-lone-requires c κs = search needs
+lone-requires c κs =
+    let wide = c .before .before .before .before .before .before .before .bars-of .ensures .0 in
+    (search needs, omega (arith, wide .0), omega (arith, wide .1))
 
 label-of-requires : tie.Need-label-of-requires Inv-loop μ-loop
 label-of-requires c κs = search needs
@@ -54,7 +66,7 @@ loop-again : tie.Need-loop-again Inv-loop μ-loop
 loop-again c =
     let labelled = c .before in
     let counted = labelled .before in
-    let read = counted .before in
+    let read = counted .before .before .before in
     let turn = read .before in
     let head = turn .before in
     let inv = head .loop .inv in (
@@ -62,11 +74,12 @@ loop-again c =
       search needs,
       omega (arith, label-next _ _ _ _ (labelled .label-of .ensures)),
       λ l zs t z. labels-step l zs _ _ _ z (head .loop .k) (head .loop .last) (head .loop .rows) _ (inv .3 l zs t z) _ _ _
-          (turn .loop-test .taken) (search needs) (read .zone-at .ensures) (counted .lone .ensures l t) (labelled .label-of .ensures),
+          (turn .loop-test .taken) (search needs) (read .zone-at .ensures)
+          (rw (count-touches l _ (l .bigs)) at (counted .lone .ensures _ (head .before .before .before .bars-of .ensures .1 l t))) (labelled .label-of .ensures),
     )
 
-cast-t20 : tie.Need-cast-t20 Inv-loop μ-loop
-cast-t20 c = search needs
+cast-t27 : tie.Need-cast-t27 Inv-loop μ-loop
+cast-t27 c = search needs
 
 returns : tie.Need-returns Inv-loop μ-loop
 returns c l zs t z =
@@ -80,8 +93,11 @@ labels-of-spec =
     (tie.spec
     Inv-loop
     μ-loop
+    bars-of-requires
     loop-holds
     zone-at-requires
+    slice-aggregate-lone
+    slice-aggregate-lone-2
     lone-requires
     label-of-requires
     mul-rows
@@ -89,5 +105,5 @@ labels-of-spec =
     add-k
     loop-less
     loop-again
-    cast-t20
+    cast-t27
     returns)
