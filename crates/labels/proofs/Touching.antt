@@ -1,5 +1,5 @@
 -- Laws of the columns of bars: how they are filled, and that a range's bars touch a zone's where the columns' do. Assumes nothing.
-use mathlib.Core.Path.{_≡_, refl, sym, _∙_}
+use mathlib.Core.Path.{_≡_, refl, sym}
 use mathlib.Core.Bool.{Bool, true, false, cond, _&&_}
 use mathlib.Core.List.{List, [], _∷_, _++_, map}
 use Prim.Native.Nat.{ℕ, suc, _+_, _≤_, _<_}
@@ -43,7 +43,7 @@ module _
         → s ≡ startOf x → e ≡ endOf x → BarColumns (k + 1) (set ss k s) (set es k e) (map (rangeOf c) (take (k + 1) (c .bigs)))
     columns-more x s e h v w is f g =
         let one : map (rangeOf c) (take (k + 1) (c .bigs)) ≡ map (rangeOf c) (take k (c .bigs)) ++ (x ∷ []) =
-            rw (is, range-is c m bars prices t k h, add-one k, take-suc (c .bigs) k no-triple (omega (arith, t .count)), map-append) in
+        rw (is, range-is c m bars prices t k h, add-one k, take-suc (c .bigs) k no-triple (omega (arith, t .count)), map-append) in
         rw one (record {
           by-start = rw (one-more ss k s v, map-append, done .by-start, f);
           by-end = rw (one-more es k e w, map-append, done .by-end, g);
