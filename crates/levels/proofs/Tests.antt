@@ -1,7 +1,7 @@
 -- Laws of refusal 21: a test on what is left of a level, and the tests on a chart put together. Assumes nothing.
 use Prim.Native.Nat.{ℕ, _+_, _<_, _≤_}
 use mathlib.Core.Path.{_≡_, refl, sym, subst, _∙_}
-use mathlib.Core.Bool.{Bool, true, false, not, _&&_, _||_, or-true, or-false, false≢true}
+use mathlib.Core.Bool.{Bool, true, false, not, _&&_, _||_, or-true, or-false, or-assoc, false≢true}
 use mathlib.Core.List.{List}
 use lib.ListN.{length, getD, take, drop}
 use lib.Dec.{T, leb, ltb, leb→le}
@@ -28,10 +28,6 @@ module _ {A : Type 0} (p : A → Bool) (n i : ℕ) (xs : List A) (k : n ≤ leng
   any-none h = rw (left-none n i xs h k)
 
 -- ---- whether one of the first n passes: `met` is whether one before place i does, and those from there on are left to look at
-
-or-assoc : (a b c : Bool) → ((a || b) || c) ≡ (a || (b || c))
-or-assoc true b c = refl
-or-assoc false b c = refl
 
 module _
     {A : Type 0} (p : A → Bool) (n i : ℕ) (xs : List A) (met all : Bool) (long : n ≤ length xs) (left : (met || any p (drop i (take n xs))) ≡ all)

@@ -27,9 +27,9 @@ use Rattle.mark_hits.specs.Found.{hitBar}
 use Rattle.mark_hits.specs.Anchors.{endsIn, EndsBy, NextEnd, barsIn}
 use Rattle.mark_hits.proofs.Ends.{keep-yes, keep-no}
 use Rattle.mark_hits.proofs.Anchors.{bars-none, bars-over, bars-next}
-use Rattle.mark_rows.specs.Rows.{keyOf, barIn, markIn, marksIn, Grown, Pushes, KeepsRoom, KeepsEnds}
-use Rattle.mark_rows.proofs.Gathered.{key-bar, key-side}
-use Rattle.mark_rows.proofs.Numbers.{grown-none, grown-then}
+use Rattle.mark_rows.specs.Rows.{keyOf, barIn, marksIn, Grown, Pushes, KeepsRoom, KeepsEnds}
+use Rattle.mark_rows.proofs.Gathered.{key-bar}
+use Rattle.mark_rows.proofs.Numbers.{mark-key, grown-none, grown-then}
 use Rattle.mark_anchors.specs.declared.AnchorHits.{AnchorHits}
 use Rattle.mark_anchors.specs.Anchored.{numberedHits, allHits, HitRows}
 
@@ -51,9 +51,6 @@ module _ {A : Type 0} (p : A → Bool) (x : A) (xs : List A) where
       go false = refl
 
 -- ---- one bar
-
-mark-key : (q : Quotes) (bar : ℕ) (buy : Bool) (order : ℕ) → markIn q (keyOf bar buy) order ≡ markAt q buy order bar
-mark-key q bar buy order = rw (key-bar bar buy, key-side bar buy)
 
 numbered-more : (q : Quotes) (buy : Bool) (order bar : ℕ) (bars : List ℕ) → numbered q buy order (bar ∷ bars) ≡ markAt q buy order bar ∷ numbered q buy (order + 1) bars
 unfolding numbered

@@ -253,16 +253,16 @@ module _ {A B : Type 0} (f : A → Option B) where
       go (some y) e h = collect-some f x (xs ++ ys) y e ∙ ap (λ (l : List B). y ∷ l) h ∙ ap (λ (l : List B). l ++ collect f ys) (sym (collect-some f x xs y e))
 
 -- the anchors among the first i bigs have rows, and no big before place `from` ends behind the last of them
-abbrev pub AnchorsAmong : Side → List (List ℕ) → List (List Float) → List (List ℕ) → List Float → ℕ → ℕ → ℕ → ℕ → Type 0
-AnchorsAmong s bars prices rows cs n last from i =
+abbrev pub AnchorsFound : Side → List (List ℕ) → List (List Float) → List (List ℕ) → List Float → ℕ → ℕ → ℕ → ℕ → Type 0
+AnchorsFound s bars prices rows cs n last from i =
     (c : Levels) → Bigs c (s .bigs) bars prices → NoneBefore c last from × Anchors c (s .buy) (collect (lastStroke c) (take i (c .bigs))) n rows cs
 
-pub among-none : (s : Side) (bars : List (List ℕ)) (prices : List (List Float)) (rows : List (List ℕ)) (cs : List Float) → AnchorsAmong s bars prices rows cs 0 0 0 0
-among-none s bars prices rows cs c t = (none-first c 0, record { count = refl; are = λ i a e. absurd (none-some e) })
+pub found-none : (s : Side) (bars : List (List ℕ)) (prices : List (List Float)) (rows : List (List ℕ)) (cs : List Float) → AnchorsFound s bars prices rows cs 0 0 0 0
+found-none s bars prices rows cs c t = (none-first c 0, record { count = refl; are = λ i a e. absurd (none-some e) })
 
 module _
     (s : Side) (bars : List (List ℕ)) (prices : List (List Float)) (rows : List (List ℕ)) (cs : List Float) (n last from i : ℕ)
-    (so-far : AnchorsAmong s bars prices rows cs n last from i) (more : i < s .bigs)
+    (so-far : AnchorsFound s bars prices rows cs n last from i) (more : i < s .bigs)
   where
     module _ (c : Levels) (t : Bigs c (s .bigs) bars prices) where
       abbrev b : Triple
@@ -276,19 +276,19 @@ module _
           ap (collect (lastStroke c)) first-bigs
           ∙ collect-append (lastStroke c) (take i (c .bigs)) (b ∷ [])
 
-    pub among-missing : pointIn (getD bars i []) (getD prices i []) ≡ point.Nowhere → AnchorsAmong s bars prices rows cs n last from (i + 1)
-    among-missing e c t =
+    pub found-missing : pointIn (getD bars i []) (getD prices i []) ≡ point.Nowhere → AnchorsFound s bars prices rows cs n last from (i + 1)
+    found-missing e c t =
         let gone = no-point (lastStroke c (b c t)) (sym (point-is c (s .bigs) bars prices t i more) ∙ e) in
         let same = one-more c t ∙ ap (λ (l : List Stroke). collect (lastStroke c) (take i (c .bigs)) ++ l) (collect-none (lastStroke c) (b c t) [] gone) ∙ append-nil _ in
         (so-far c t .0, subst (λ (l : List Stroke). Anchors c (s .buy) l n rows cs) (sym same) (so-far c t .1))
 
-    pub among-more :
+    pub found-more :
         (bar : ℕ) (x : Float) → pointIn (getD bars i []) (getD prices i []) ≡ point.At bar x
         → (place : ℕ) → FirstBehind (s .bigs) bars prices last from bar place
         → (end : End) → NextEnd (s .bigs) bars prices (s .buy) bar place end
         → (rows' : List (List ℕ)) (cs' : List Float) → PutsAnchor n bar place end rows cs rows' cs'
-        → AnchorsAmong s bars prices rows' cs' (n + 1) bar place (i + 1)
-    among-more bar x e place behind end next rows' cs' put c t =
+        → AnchorsFound s bars prices rows' cs' (n + 1) bar place (i + 1)
+    found-more bar x e place behind end next rows' cs' put c t =
         let there = point-stroke (lastStroke c (b c t)) bar x (sym (point-is c (s .bigs) bars prices t i more) ∙ e) in
         let before = behind c t (so-far c t .0) in
         let same = one-more c t ∙ ap (λ (l : List Stroke). collect (lastStroke c) (take i (c .bigs)) ++ l) (collect-some (lastStroke c) (b c t) [] (there .0) (there .1)) in (
@@ -296,9 +296,9 @@ module _
           subst (λ (l : List Stroke). Anchors c (s .buy) l (n + 1) rows' cs') (sym same) (put c (s .buy) _ (there .0) (there .2) before (next c t) (so-far c t .1)),
         )
 
-pub among-all :
+pub found-all :
     (s : Side) (bars : List (List ℕ)) (prices : List (List Float)) (rows : List (List ℕ)) (cs : List Float) (n last from i : ℕ)
-    → AnchorsAmong s bars prices rows cs n last from i → i ≤ s .anchors → s .anchors ≤ i → AnchorsOf s bars prices n rows cs
-among-all s bars prices rows cs n last from i so-far h k c t =
+    → AnchorsFound s bars prices rows cs n last from i → i ≤ s .anchors → s .anchors ≤ i → AnchorsOf s bars prices n rows cs
+found-all s bars prices rows cs n last from i so-far h k c t =
     let same : i ≡ s .anchors = omega arith in
     subst (λ (j : ℕ). Anchors c (s .buy) (collect (lastStroke c) (take j (c .bigs))) n rows cs) same (so-far c t .1)

@@ -3,18 +3,15 @@ use Prim.Native.Nat.{ℕ, zero, suc, _+_, _-_, _<_, _≤_}
 use native.Mathlib.Omega.{arith}
 use mathlib.Core.Path.{_≡_, refl, sym, ap, _∙_}
 use mathlib.Core.Bool.{Bool, true, false, cond}
-use mathlib.Core.List.{List, [], _∷_, _++_, foldl, append-assoc, List·Memᴰ}
+use mathlib.Core.List.{List, [], _∷_, _++_, append-assoc}
 use lib.ListN.{length, getD, set, take, drop}
 use lib.Seq.{take-set-lt, drop-set-lt, getD-take, take-take, length-take-le}
 use lib.Dec.{eqb, leb, ltb}
 use borrow.Author.Tests.{le-ltb, lt-ltb, lt-leb, leb-true, leb-false, ne-eqb, eq-eqb}
 use Rattle.rules.specs.Lists.{before}
 use Rattle.rules.specs.Marks.{insertBar}
-use Rattle.laws.proofs.Lists.{All, nil, cons, none-left, then, all-map, sorted-map}
-use Rattle.laws.proofs.Keys.{pigeonhole}
-use Rattle.laws.proofs.Room.{inserts-all}
+use Rattle.laws.proofs.Lists.{All, nil, cons, then, all-map}
 use Rattle.laws.specs.Lists.{Rising}
-use Rattle.laws.proofs.Earlier.{inserts-rising}
 use Rattle.laws.proofs.Arrays.{left-more, left-none, one-more}
 use Rattle.mark_rows.proofs.Places.{place-from, all-here}
 
@@ -120,10 +117,3 @@ module _ (bars : List ℕ) (n at bar : ℕ) (long : n < length bars) (within : a
       let other : at < length (take n bars) → getD (take n bars) at 0 ≡ bar → ⊥ =
       λ k f. let near : at < n = omega (arith, size) in h near (sym (getD-take n bars at 0 near) ∙ f) in
       e ∙ (rw (← take-take at n bars (omega (arith, size, within)), found) (sym (insert-new (take n bars) bar (rw found at other))))
-
--- ---- how many there are
-
--- bars among some ends are no more than those
-pub inserted-few : (ends l : List ℕ) → All (λ (b : ℕ). List·Memᴰ b ends) l → length (foldl insertBar [] l) ≤ length ends
-inserted-few ends l a =
-    pigeonhole (sorted-map (λ x y h e. omega arith) (inserts-rising [] l none-left)) (inserts-all (λ (b : ℕ). List·Memᴰ b ends) [] l nil a)

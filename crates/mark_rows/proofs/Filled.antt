@@ -22,17 +22,17 @@ one-taken xs i d h = rw (add-one i, take-suc xs i d h)
 
 -- ---- rows given out
 
-pub row-is :
+pub mark-is :
     (q : Quotes) (key order : ℕ) (p : Float) → p ≡ priceAt q (sideIn key) (barIn key)
     → _≡_ {A = NMark} (record { «bar_index» = barIn key; price = p; «is_buy» = sideIn key; order = order }) (markIn q key order)
 unfolding markAt
-row-is q key order p e = λ i. record { «bar_index» = barIn key; price = e i; «is_buy» = sideIn key; order = order }
+mark-is q key order p e = λ i. record { «bar_index» = barIn key; price = e i; «is_buy» = sideIn key; order = order }
 
 module _ (q : Quotes) (keys orders : List ℕ) (rows : List NMark) (i : ℕ) (are : take i rows ≡ marksIn q (take i keys) (take i orders)) where
-  pub rows-next :
+  pub marks-next :
       (m : NMark) → i < length keys → i < length orders → i < length rows → m ≡ markIn q (getD keys i 0) (getD orders i 0)
       → take (i + 1) (set rows i m) ≡ marksIn q (take (i + 1) keys) (take (i + 1) orders)
-  rows-next m h k l e =
+  marks-next m h k l e =
       let sizes : length (take i keys) ≡ length (take i orders) = length-take-le i keys (omega arith) ∙ sym (length-take-le i orders (omega arith)) in
       rw (
         one-more rows i m l,

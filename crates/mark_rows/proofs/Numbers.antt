@@ -72,7 +72,7 @@ module _ (q : Quotes) (buy : Bool) (at0 : ℕ → Bool) (bar : ℕ) (bars : List
   left-next zero z e = absurd (z refl)
   left-next (suc n) z e = rw (add-one (suc n), e)
 
-mark-key : (q : Quotes) (bar : ℕ) (buy : Bool) (order : ℕ) → markIn q (keyOf bar buy) order ≡ markAt q buy order bar
+pub mark-key : (q : Quotes) (bar : ℕ) (buy : Bool) (order : ℕ) → markIn q (keyOf bar buy) order ≡ markAt q buy order bar
 mark-key q bar buy order = rw (key-bar bar buy, key-side bar buy)
 
 -- key is the bar's, and place its place among the first `zeros` keys

@@ -1,4 +1,4 @@
--- The scan of one zone, the scans of all, and what their table tells. Assumes nothing.
+-- The scan of one zone, and the scans of all. Assumes nothing.
 use Prim.Native.Nat.{ℕ, suc, _+_, _-_, _<_, _≤_, min}
 use native.Mathlib.Omega.{arith}
 use native.Mathlib.Numerals.{add-one}
@@ -23,8 +23,7 @@ use Rattle.tables.specs.declared.Counts.{Counts}
 use Rattle.tables.specs.Tables.{Sups, Tables}
 use Rattle.tables.proofs.Sups.{triple-is}
 use Rattle.tables.proofs.Zones.{no-zone, owner-of, end-of}
-use Rattle.mark_scan.specs.declared.Scan.{Scan}
-use Rattle.mark_scan.specs.Scan.{NextZone, OwnersBelow, StartsAt, reversalIn, limitOf, ZoneScan, scanIn, ScanOf, ScannedTo, SearchFrom, Scanned}
+use Rattle.mark_scan.specs.Scan.{NextZone, OwnersBelow, StartsAt, reversalIn, limitOf, ScanOf, ScannedTo, SearchFrom, Scanned}
 use Rattle.mark_scan.proofs.Stops.{leb-min}
 use Rattle.mark_scan.proofs.Pairs.{leave-from}
 
@@ -141,12 +140,3 @@ tables-owners c n bars prices sups zb zp t i h =
     let owner = owner-of (overlapZones c) (n .zones) zb zp (t .zones) i h in
     let same = ap (λ (z : Zone). z .«sup_idx») (at-getD (overlapZones c) i no-zone (there .0) (there .1)) in
     omega (arith, owner, same, all-at i (there .0) (zones-owned c) (there .1), t .superiors .count)
-
--- a row that is read is the scan of the zone at its place
-pub scan-is :
-    (c : Levels) (n : Counts) (bars : List (List ℕ)) (prices : List (List Float)) (sups rows : List (List ℕ)) → Scanned c n bars prices sups rows
-    → (i : ℕ) (s : Scan) → i < n .zones → s ≡ scanIn (getD rows i [])
-    → (z : Zone) × (getElem? (overlapZones c) i ≡ some z) × ZoneScan c (overlapZones c) z s
-scan-is c n bars prices sups rows t i s h read =
-    let there = lt-at (overlapZones c) i (omega (arith, h, t .scans .count)) in
-    (there .0, there .1, rw read (t .scans .are i (there .0) (there .1)))

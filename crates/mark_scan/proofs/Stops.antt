@@ -3,7 +3,7 @@ use Prim.Native.Nat.{ℕ, zero, suc, _+_, _-_, _%_, _<_, _≤_, min}
 use native.Mathlib.Omega.{arith}
 use native.Mathlib.Numerals.{add-one}
 use mathlib.Core.Path.{_≡_, refl, sym, ap, _∙_}
-use mathlib.Core.Bool.{Bool, true, false, cond, not, _&&_, _||_, and-false, false≢true}
+use mathlib.Core.Bool.{Bool, true, false, cond, not, _&&_, _||_, and-false, false≢true, or-assoc, or-false}
 use mathlib.Core.List.{List, [], _∷_}
 use mathlib.Core.Option.{Option, none, some}
 use lib.ListN.{getD, drop, drop-of-length-le}
@@ -36,14 +36,6 @@ leb-min a b bar = go (leb a bar) refl (leb b bar) refl
     go false f false g = lt-leb (min a b) bar (omega (arith, leb-false a bar f, leb-false b bar g))
 
 -- ---- zones
-
-or-assoc : (a b c : Bool) → ((a || b) || c) ≡ (a || (b || c))
-or-assoc true b c = refl
-or-assoc false b c = refl
-
-or-nothing : (a : Bool) → (a || false) ≡ a
-or-nothing true = refl
-or-nothing false = refl
 
 -- the limit that a zone's number of bars behind e + 1 is
 behind-limit :
@@ -154,7 +146,7 @@ module _ (n : ℕ) (zb : List (List ℕ)) (h e : ℕ) where
 
   zones-over : (least i : ℕ) → n ≤ i → ZonesLeft least i → NextZone n zb 0 h e (least + suc e)
   zones-over least i k left zs zp t z own end bar below =
-      left zs zp t z own end bar below ∙ rw (over zs zp t z own end bar i k) (or-nothing (leb (least + suc e) bar))
+      left zs zp t z own end bar below ∙ rw (over zs zp t z own end bar i k) (or-false (leb (least + suc e) bar))
 
   pub zones-least : (least i : ℕ) → n ≤ i → ZonesLeft least i → NextZone n zb 0 h e (least + e + 1)
   zones-least least i k left = let same : least + e + 1 ≡ least + suc e = omega arith in rw same (zones-over least i k left)

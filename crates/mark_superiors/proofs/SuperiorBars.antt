@@ -56,8 +56,8 @@ pub record ZonesSoFar
         → OwnLeft c h own later out k i
 
 module _ (h : ℕ) (scans : List (List ℕ)) (n : Counts) (from : ℕ) (bars : List (List ℕ)) (prices : List (List Float)) where
-  pub bars-first : (out : List ℕ) → length out ≡ 257 → ZonesSoFar h scans n from bars prices out 0 from
-  bars-first out w =
+  pub taken-first : (out : List ℕ) → length out ≡ 257 → ZonesSoFar h scans n from bars prices out 0 from
+  taken-first out w =
       record {
         wide = w;
         low = omega arith;
@@ -80,8 +80,8 @@ module _ (h : ℕ) (scans : List (List ℕ)) (n : Counts) (from : ℕ) (bars : L
         go (z ∷ rest) left e = absurd (no-more c sups z rest later s left)
 
     -- no zone is left
-    pub bars-over : n .zones ≤ i → TakesBlock h n bars prices scans from k i out
-    bars-over over =
+    pub taken-over : n .zones ≤ i → TakesBlock h n bars prices scans from k i out
+    taken-over over =
         done (λ c sups z rest later s b.
         let none = drop-of-length-le (overlapZones c) {i = i} (omega (arith, s .scans .count)) in
         omega (arith, ap (λ (m : List Zone). length m) (sym none ∙ b .stand)))
@@ -94,18 +94,18 @@ module _ (h : ℕ) (scans : List (List ℕ)) (n : Counts) (from : ℕ) (bars : L
       by-row c sups s z e = subst (ZoneScan c (overlapZones c) z) (sym read) (s .scans .are i z e)
 
       -- a zone of another superior
-      pub bars-other : (scan .superior ≡ h → ⊥) → TakesBlock h n bars prices scans from k i out
-      bars-other other =
+      pub taken-other : (scan .superior ≡ h → ⊥) → TakesBlock h n bars prices scans from k i out
+      taken-other other =
           done (λ c sups z rest later s b.
           let there = front i (overlapZones c) z (rest ++ later) (b .stand) in
           other (sym (by-row c sups s z (there .0) .own) ∙ all-at 0 z (b .owned) refl))
 
       -- a zone of this one, whose bars are put in
       module _ (more : i < n .zones) (mine : scan .superior ≡ h) (r : ℕ) (out' : List ℕ) (put : PutsPairs (n .bigs) bars prices scan k out r out') where
-        left-next :
+        own-left-next :
             (c : Levels) (sups : List (List ℕ)) (own later : List Zone) → Scanned c n bars prices sups scans → OwnLeft c h own later out k i
             → OwnLeft c h own later out' r (i + 1)
-        left-next c sups own later s l = go (l .rest) (l .block) (l .bars)
+        own-left-next c sups own later s l = go (l .rest) (l .block) (l .bars)
           where
             go :
                 (rest : List Zone) → Block c h i rest later
@@ -132,8 +132,8 @@ module _ (h : ℕ) (scans : List (List ℕ)) (n : Counts) (from : ℕ) (bars : L
                       ∙ e;
                 }
 
-        pub bars-next : r ≤ 257 → length out' ≡ 257 → ZonesSoFar h scans n from bars prices out' r (i + 1)
-        bars-next low wide =
+        pub taken-next : r ≤ 257 → length out' ≡ 257 → ZonesSoFar h scans n from bars prices out' r (i + 1)
+        taken-next low wide =
             record {
               wide = wide;
               low = low;
@@ -141,5 +141,5 @@ module _ (h : ℕ) (scans : List (List ℕ)) (n : Counts) (from : ℕ) (bars : L
                   λ c sups s a.
                   subst (RisingAmong (endBars c)) (sym (put c (leb (scan .limit)) (s .bigs) (λ b l. refl)))
                   (among-more (endBars c) (take k out) _ (so-far .among c sups s a) (pairs-end c (leb (scan .limit)) (scan .direction) (scan .from)));
-              left = λ c sups own later s b. left-next c sups own later s (so-far .left c sups own later s b);
+              left = λ c sups own later s b. own-left-next c sups own later s (so-far .left c sups own later s b);
             }

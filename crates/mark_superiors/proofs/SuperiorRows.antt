@@ -24,7 +24,7 @@ use Rattle.mark_scan.specs.Scan.{Scanned}
 use Rattle.mark_rows.specs.Rows.{rowKey, marksIn, barMarks, Among, Grown, KeepsRoom, KeepsEnds, NumbersBars}
 use Rattle.mark_rows.proofs.Numbers.{grown-none, grown-then}
 use Rattle.mark_superiors.specs.Superiors.{TakesBlock, NumbersSuperiors}
-use Rattle.mark_superiors.proofs.ZoneOrder.{ZonesLeft, zones-left-first, zones-left-next, block, bars-own}
+use Rattle.mark_superiors.proofs.ZoneOrder.{RestZones, rest-zones-first, rest-zones-next, block, bars-own}
 
 module _ (c : Levels) (q : Quotes) (zs : List Zone) (thirds : List ThirdMark) (i : ℕ) where
   superiors-more :
@@ -47,29 +47,29 @@ pub record RowsSoFar
     pub wide : length out ≡ 257
     pub grown : Grown zeros keys₀ orders₀ count keys orders
     pub room : KeepsEnds (λ (c : Levels). Scanned c n bars prices sups scans) keys₀ zeros keys count
-    pub stands : (c : Levels) → Scanned c n bars prices sups scans → ZonesLeft c i at
+    pub stands : (c : Levels) → Scanned c n bars prices sups scans → RestZones c i at
     pub left :
         (c : Levels) (q : Quotes) (thirds : List ThirdMark) → Scanned c n bars prices sups scans → take zeros keys₀ ≡ map rowKey thirds
         → foldl push3N (marksIn q (take count keys) (take count orders)) (superiorsNumbered c q (overlapZones c) thirds i (drop i (c .superiors)))
         ≡ foldl push3N (marksIn q (take zeros keys₀) (take zeros orders₀)) (superiorsNumbered c q (overlapZones c) thirds 0 (c .superiors))
 
 module _ (sups scans bars : List (List ℕ)) (prices : List (List Float)) (n : Counts) (zeros : ℕ) (keys₀ orders₀ : List ℕ) where
-  pub rows-first : (out : List ℕ) → length out ≡ 257 → RowsSoFar sups scans bars prices n zeros keys₀ orders₀ keys₀ orders₀ out zeros 0 0
-  rows-first out w =
+  pub numbered-first : (out : List ℕ) → length out ≡ 257 → RowsSoFar sups scans bars prices n zeros keys₀ orders₀ keys₀ orders₀ out zeros 0 0
+  numbered-first out w =
       record {
         within = omega arith;
         wide = w;
         grown = grown-none zeros keys₀ orders₀;
         room = λ c s r. r;
-        stands = λ c s. zones-left-first c;
+        stands = λ c s. rest-zones-first c;
         left = λ c q thirds s z. refl;
       }
 
   module _
       (keys orders out : List ℕ) (count at i : ℕ) (so-far : RowsSoFar sups scans bars prices n zeros keys₀ orders₀ keys orders out count at i)
     where
-      pub rows-all : n .superiors ≤ i → NumbersSuperiors n bars prices sups scans zeros keys₀ orders₀ count keys orders
-      rows-all over c q thirds s z =
+      pub numbered-all : n .superiors ≤ i → NumbersSuperiors n bars prices sups scans zeros keys₀ orders₀ count keys orders
+      numbered-all over c q thirds s z =
           rw (drop-of-length-le (c .superiors) {i = i} (omega (arith, s .superiors .count)), superiors-none c q (overlapZones c) thirds i) at
           (so-far .left c q thirds s z)
 
@@ -88,12 +88,12 @@ module _ (sups scans bars : List (List ℕ)) (prices : List (List Float)) (n : C
               subst (λ (l : List ℕ). Among l (endBars c)) (sym met)
               (bars-all (λ (b : ℕ). List·Memᴰ b (endBars c)) c (ends-there c (c .bigs)) (overlapZones c) i)
 
-        pub rows-next :
+        pub numbered-next :
             (buy : Bool) (r : ℕ) (keys' orders' : List ℕ) → length out' ≡ 257
             → NumbersBars (take k out') buy zeros count keys orders r keys' orders' → KeepsRoom (Among (take k out')) keys count keys' r
             → Grown count keys orders r keys' orders' → buy ≡ isUp (getD (getD sups i []) 0 0)
             → RowsSoFar sups scans bars prices n zeros keys₀ orders₀ keys' orders' out' r next (i + 1)
-        rows-next buy r keys' orders' wide marks room grown side =
+        numbered-next buy r keys' orders' wide marks room grown side =
             record {
               within = omega arith;
               wide = wide;
@@ -102,7 +102,7 @@ module _ (sups scans bars : List (List ℕ)) (prices : List (List Float)) (n : C
               stands =
                   λ c s.
                   let here = so-far .stands c s in
-                  zones-left-next c i at here (inside c s) next (taken c sups _ _ s (block c i at here (inside c s)) .1);
+                  rest-zones-next c i at here (inside c s) next (taken c sups _ _ s (block c i at here (inside c s)) .1);
               left =
                   λ c q thirds s z.
                   let zs = overlapZones c in

@@ -63,23 +63,23 @@ pub record PairsSoFar
         ≡ foldl insertBar (take k out₀) (pairEnds c stop (scan .direction) (drop (scan .from) (c .bigs)))
 
 module _ (bars : List (List ℕ)) (prices : List (List Float)) (m : ℕ) (scan : Scan) (out₀ : List ℕ) (k : ℕ) where
-  pub pairs-first : length out₀ ≡ 257 → k ≤ 257 → PairsSoFar bars prices m scan out₀ k out₀ k 0 (scan .from)
-  pairs-first w l = record { wide = w; low = l; hinted = omega arith; among = λ c t a. a; left = λ c stop t lim. refl }
+  pub put-first : length out₀ ≡ 257 → k ≤ 257 → PairsSoFar bars prices m scan out₀ k out₀ k 0 (scan .from)
+  put-first w l = record { wide = w; low = l; hinted = omega arith; among = λ c t a. a; left = λ c stop t lim. refl }
 
   module _ (out : List ℕ) (count hint at : ℕ) (so-far : PairsSoFar bars prices m scan out₀ k out count hint at) where
     -- there is room for one bar more
-    pub pairs-room : (c : Levels) → Bigs c m bars prices → RisingAmong (endBars c) (take k out₀) → count ≤ 256
-    pairs-room c t a = omega (arith, among-few (so-far .among c t a), length-take-le count out (omega (arith, so-far .wide, so-far .low)))
+    pub put-room : (c : Levels) → Bigs c m bars prices → RisingAmong (endBars c) (take k out₀) → count ≤ 256
+    put-room c t a = omega (arith, among-few (so-far .among c t a), length-take-le count out (omega (arith, so-far .wide, so-far .low)))
 
     -- no big is left
-    pub pairs-none : m ≤ at → PutsPairs m bars prices scan k out₀ count out
+    pub put-none : m ≤ at → PutsPairs m bars prices scan k out₀ count out
     unfolding pairEnds
-    pairs-none h c stop t lim = rw (drop-of-length-le (c .bigs) {i = at} (omega (arith, t .count))) at (so-far .left c stop t lim)
+    put-none h c stop t lim = rw (drop-of-length-le (c .bigs) {i = at} (omega (arith, t .count))) at (so-far .left c stop t lim)
 
     -- the next pair
     module _ (r : Pair) (pairs : NextPair m bars prices (scan .direction) (scan .limit) at r) where
-      pub pairs-over : r ≡ Over → PutsPairs m bars prices scan k out₀ count out
-      pairs-over e c stop t lim =
+      pub put-over : r ≡ Over → PutsPairs m bars prices scan k out₀ count out
+      put-over e c stop t lim =
           let none = pairs c stop t lim ∙ ap (pairsBy (pairEnds c stop (scan .direction)) (c .bigs)) e in
           sym (ap (foldl insertBar (take count out)) none) ∙ so-far .left c stop t lim
 
@@ -96,10 +96,10 @@ module _ (bars : List (List ℕ)) (prices : List (List Float)) (m : ℕ) (scan :
             (subst (λ (l : List ℕ). Among l (endBars c)) (here c stop t (λ b s. refl)) (pairs-end c stop (scan .direction) at))
             (List·Memᴰ·head refl)
 
-        pub pairs-next :
+        pub put-pair :
             (count' hint' : ℕ) (out' : List ℕ) → take count' out' ≡ insertBar (take count out) bar → length out' ≡ length out
             → count' ≤ 257 → hint' ≤ count' → PairsSoFar bars prices m scan out₀ k out' count' hint' next
-        pairs-next count' hint' out' put long low hinted =
+        put-pair count' hint' out' put long low hinted =
             record {
               wide = long ∙ so-far .wide;
               low = low;

@@ -36,9 +36,9 @@ module _ (range : Triple → Range) (level : List Triple) where
   zones-above h (s ∷ ss) =
       all-append (all-map (λ z e. omega arith) (zones-own h s)) (all-map (λ z e. omega arith) (zones-above (suc h) ss))
 
-  zones-next : (h : ℕ) (s : Triple) (ss : List Triple) → zonesFrom range level h (s ∷ ss) ≡ zonesOf range level h s ++ zonesFrom range level (suc h) ss
+  zones-one-more : (h : ℕ) (s : Triple) (ss : List Triple) → zonesFrom range level h (s ∷ ss) ≡ zonesOf range level h s ++ zonesFrom range level (suc h) ss
   unfolding zonesFrom
-  zones-next h s ss = refl
+  zones-one-more h s ss = refl
 
 -- ---- the zones of one superior
 
@@ -62,15 +62,15 @@ module _ (h : ℕ) where
 -- ---- the superiors from i on
 
 -- their zones are those from place `at` on
-pub record ZonesLeft (c : Levels) (i at : ℕ) : Type 0 where
+pub record RestZones (c : Levels) (i at : ℕ) : Type 0 where
   pub rest : drop at (overlapZones c) ≡ zonesFrom (rangeOf c) (c .bigs) i (drop i (c .superiors))
   pub apart : (h : ℕ) → i ≤ h → ownZones h (overlapZones c) ≡ ownZones h (drop at (overlapZones c))
 
-pub zones-left-first : (c : Levels) → ZonesLeft c 0 0
+pub rest-zones-first : (c : Levels) → RestZones c 0 0
 unfolding overlapZones
-zones-left-first c = record { rest = refl; apart = λ h k. refl }
+rest-zones-first c = record { rest = refl; apart = λ h k. refl }
 
-module _ (c : Levels) (i at : ℕ) (so-far : ZonesLeft c i at) (more : i < length (c .superiors)) where
+module _ (c : Levels) (i at : ℕ) (so-far : RestZones c i at) (more : i < length (c .superiors)) where
   abbrev pub own : List Zone
   own = zonesOf (rangeOf c) (c .bigs) i (getD (c .superiors) i no-triple)
 
@@ -80,7 +80,7 @@ module _ (c : Levels) (i at : ℕ) (so-far : ZonesLeft c i at) (more : i < lengt
   pub block : Block c i at own later
   block =
       record {
-        stand = so-far .rest ∙ (rw (drop-cons (c .superiors) i no-triple more, add-one i) (zones-next (rangeOf c) (c .bigs) i _ _));
+        stand = so-far .rest ∙ (rw (drop-cons (c .superiors) i no-triple more, add-one i) (zones-one-more (rangeOf c) (c .bigs) i _ _));
         owned = zones-own (rangeOf c) (c .bigs) i _;
         above = all-map (λ z e. omega arith) (zones-above (rangeOf c) (c .bigs) (i + 1) _);
       }
@@ -91,8 +91,8 @@ module _ (c : Levels) (i at : ℕ) (so-far : ZonesLeft c i at) (more : i < lengt
       let mine = so-far .apart i (omega arith) ∙ ap (ownZones i) (block .stand) ∙ own-all i (block .owned) (all-map (λ z k e. omega arith) (block .above)) in
       ap (λ (zs : List Zone). foldl insertBar [] (each (scanned c (overlapZones c)) zs)) (sym mine)
 
-  pub zones-left-next : (next : ℕ) → drop next (overlapZones c) ≡ later → ZonesLeft c (i + 1) next
-  zones-left-next next e =
+  pub rest-zones-next : (next : ℕ) → drop next (overlapZones c) ≡ later → RestZones c (i + 1) next
+  rest-zones-next next e =
       record {
         rest = e;
         apart =

@@ -30,13 +30,13 @@ module _ (zoned count : ℕ) (keys : List ℕ) (marks : List (List Float)) (l : 
       at-getD l i no-mark m f ∙ marked .are i m f
 
   module _ (i : ℕ) (rows : List ThirdMark) (done : take i rows ≡ take i l) where
-    pub rows-next :
+    pub given-next :
         i < count → i < length rows → (m : ThirdMark) → m ≡ thirdIn (ltb i zoned) (getD keys i 0) (getD marks i [])
         → take (i + 1) (set rows i m) ≡ take (i + 1) l
-    rows-next h w m e = rw (add-one i, take-suc-set rows i m w, take-suc l i no-mark (omega (arith, marked .many)), done, e, mark-at i h)
+    given-next h w m e = rw (add-one i, take-suc-set rows i m w, take-suc l i no-mark (omega (arith, marked .many)), done, e, mark-at i h)
 
-    pub rows-all : count ≤ i → i ≤ count → count ≤ length rows → rowsAnswer 0 count rows ≡ given l
-    rows-all over most w =
+    pub given-all : count ≤ i → i ≤ count → count ≤ length rows → rowsAnswer 0 count rows ≡ given l
+    given-all over most w =
         let same : i ≡ count = omega arith in
         given-rows rows count w ∙ ap given ((rw same at done) ∙ take-all count l (omega (arith, marked .many)))
 

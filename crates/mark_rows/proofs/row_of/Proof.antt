@@ -1,6 +1,6 @@
 -- `mark_rows::row_of` meets its contract. Assumes nothing.
 use borrow.Author.Needs.{needs}
-use Rattle.mark_rows.proofs.Filled.{row-is}
+use Rattle.mark_rows.proofs.Filled.{mark-is}
 use Rattle.mark_rows.proofs.row_of.Statement.{statement}
 use Rattle.mark_rows.proofs.row_of.Tie as tie
 
@@ -14,7 +14,7 @@ cast-t10 : tie.Need-cast-t10
 cast-t10 c = search needs
 
 returns : tie.Need-returns
-returns c = row-is _ _ _ _ (c .price-at .ensures)
+returns c = mark-is _ _ _ _ (c .price-at .ensures)
 
 pub row-of-spec : {M : Type 1} → statement M
 row-of-spec = tie.close (tie.spec cast-price-at price-at-requires cast-t10 returns)

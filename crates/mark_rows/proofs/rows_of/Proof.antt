@@ -6,7 +6,7 @@ use lib.ListN.{length, take, length-set}
 use borrow.Author.Needs.{needs}
 use Rattle.mark_rows.specs.Rows.{marksIn}
 use Rattle.mark_rows.proofs.Numbers.{taken-at}
-use Rattle.mark_rows.proofs.Filled.{rows-next, rows-given}
+use Rattle.mark_rows.proofs.Filled.{marks-next, rows-given}
 use Rattle.mark_rows.proofs.rows_of.Statement.{statement}
 use Rattle.mark_rows.proofs.rows_of.Tie as tie
 
@@ -62,7 +62,7 @@ loop-again c =
     let more = in-loop .loop-test .taken in (
       omega arith,
       simp length-set (inv .1),
-      rows-next _ _ _ _ (head .loop .i) (inv .2) _ (omega (arith, more, pre .0)) (omega (arith, more, pre .0)) (omega (arith, more, pre .0, inv .1)) (c .row-of .ensures),
+      marks-next _ _ _ _ (head .loop .i) (inv .2) _ (omega (arith, more, pre .0)) (omega (arith, more, pre .0)) (omega (arith, more, pre .0, inv .1)) (c .row-of .ensures),
     )
 
 cast-t20 : tie.Need-cast-t20 Inv-loop μ-loop

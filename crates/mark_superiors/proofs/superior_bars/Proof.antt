@@ -2,7 +2,7 @@
 -- in, come to all. Assumes nothing.
 use Prim.Native.Nat.{_-_}
 use borrow.Author.Needs.{needs}
-use Rattle.mark_superiors.proofs.SuperiorBars.{ZonesSoFar, bars-first, bars-over, bars-other, bars-next}
+use Rattle.mark_superiors.proofs.SuperiorBars.{ZonesSoFar, taken-first, taken-over, taken-other, taken-next}
 use Rattle.mark_superiors.proofs.superior_bars.Statement.{statement}
 use Rattle.mark_superiors.proofs.superior_bars.Tie as tie
 
@@ -20,7 +20,7 @@ abbrev begun : tie.At-loop Inv-loop μ-loop → tie.Start Inv-loop μ-loop
 begun c = c .before .before
 
 loop-holds : tie.Need-loop-holds Inv-loop μ-loop
-loop-holds c = bars-first _ _ _ _ _ _ _ (c .before .pre .0 .1)
+loop-holds c = taken-first _ _ _ _ _ _ _ (c .before .pre .0 .1)
 
 scan-at-requires : tie.Need-scan-at-requires Inv-loop μ-loop
 scan-at-requires c κs =
@@ -34,7 +34,7 @@ returns : tie.Need-returns Inv-loop μ-loop
 returns c =
     let read = c .before .before in
     let inv = head read .loop .inv in
-    ((inv .low, inv .wide), bars-other _ _ _ _ _ _ _ _ _ inv _ (read .scan-at .ensures) (c .if2 .taken))
+    ((inv .low, inv .wide), taken-other _ _ _ _ _ _ _ _ _ inv _ (read .scan-at .ensures) (c .if2 .taken))
 
 zone-bars-requires : tie.Need-zone-bars-requires Inv-loop μ-loop
 zone-bars-requires c κs =
@@ -56,7 +56,7 @@ loop-again c =
     let met = c .before .before .zone-bars in
     let own = c .before .before .before .before in
     let read = own .before .before in
-    bars-next _ _ _ _ _ _ _ _ _ (head read .loop .inv) _ (read .scan-at .ensures) (read .before .if1 .taken) (own .if2 .left)
+    taken-next _ _ _ _ _ _ _ _ _ (head read .loop .inv) _ (read .scan-at .ensures) (read .before .if1 .taken) (own .if2 .left)
     _ _ (met .ensures .1) (met .ensures .0 .0) (met .ensures .0 .1)
 
 same-length-2 : tie.Need-same-length-2 Inv-loop μ-loop
@@ -65,7 +65,7 @@ same-length-2 c = search needs
 returns-2 : tie.Need-returns-2 Inv-loop μ-loop
 returns-2 c =
     let inv = c .before .before .loop .inv in
-    ((inv .low, inv .wide), bars-over _ _ _ _ _ _ _ _ _ inv (c .if1 .left))
+    ((inv .low, inv .wide), taken-over _ _ _ _ _ _ _ _ _ inv (c .if1 .left))
 
 pub superior-bars-spec : {M : Type 1} → statement M
 superior-bars-spec =

@@ -6,7 +6,7 @@ use mathlib.Core.Path.{refl}
 use mathlib.Core.List.{List}
 use borrow.Author.Needs.{needs}
 use Rattle.mark_superiors.proofs.ZoneBars.{room-among}
-use Rattle.mark_superiors.proofs.SuperiorRows.{RowsSoFar, rows-first, rows-all, rows-next, bars-there}
+use Rattle.mark_superiors.proofs.SuperiorRows.{RowsSoFar, numbered-first, numbered-all, numbered-next, bars-there}
 use Rattle.mark_superiors.proofs.superior_rows.Statement.{statement}
 use Rattle.mark_superiors.proofs.superior_rows.Tie as tie
 
@@ -32,7 +32,7 @@ abbrev bars-of : tie.After-superior-bars Inv-loop μ-loop → List ℕ
 bars-of c = c .superior-bars .last .1 .1 .1 .1 .1 .1 .0
 
 loop-holds : tie.Need-loop-holds Inv-loop μ-loop
-loop-holds c = rows-first _ _ _ _ _ _ _ _ _ refl
+loop-holds c = numbered-first _ _ _ _ _ _ _ _ _ refl
 
 cast-superior-bars : tie.Need-cast-superior-bars Inv-loop μ-loop
 cast-superior-bars c =
@@ -95,7 +95,7 @@ loop-again c =
     let met = c .before .before .before .before .before .before .before .before .before .before in
     let block = met .superior-bars .result in
     let got = met .superior-bars .ensures in
-    rows-next _ _ _ _ _ _ _ _ _ _ _ _ _ _ (head (turn met) .loop .inv) (turn met .if1 .taken) (block .count) (block .next) (bars-of met)
+    numbered-next _ _ _ _ _ _ _ _ _ _ _ _ _ _ (head (turn met) .loop .inv) (turn met .if1 .taken) (block .count) (block .next) (bars-of met)
     (got .1) _ _ _ _ (got .0 .1) (rows .0) (rows .1 .0) (rows .1 .1) refl
 
 same-length : tie.Need-same-length Inv-loop μ-loop
@@ -107,7 +107,7 @@ same-length-2 c = search needs
 returns : tie.Need-returns Inv-loop μ-loop
 returns c =
     let inv = c .before .before .loop .inv in
-    (rows-all _ _ _ _ _ _ _ _ _ _ _ _ _ _ inv (c .if1 .left), (inv .room, inv .grown))
+    (numbered-all _ _ _ _ _ _ _ _ _ _ _ _ _ _ inv (c .if1 .left), (inv .room, inv .grown))
 
 pub superior-rows-spec : {M : Type 1} → statement M
 superior-rows-spec =

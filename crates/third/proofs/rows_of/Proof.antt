@@ -7,7 +7,7 @@ use lib.ListN.{length, take, length-set}
 use borrow.Author.Needs.{needs}
 use Rattle.chart.specs.declared.ThirdMark.{ThirdMark}
 use Rattle.mark_thirds.specs.Third.{Marked}
-use Rattle.third.proofs.Rows.{rows-next, rows-all}
+use Rattle.third.proofs.Rows.{given-next, given-all}
 use Rattle.third.proofs.rows_of.Statement.{statement}
 use Rattle.third.proofs.rows_of.Tie as tie
 
@@ -71,7 +71,7 @@ loop-again c =
     let inv = head .loop .inv in (
       omega arith,
       simp length-set (inv .1),
-      λ l w. rows-next _ _ _ _ l w (head .loop .i) (head .loop .rows) (inv .2 l w) more (omega (arith, inv, more, head .before .before .pre)) _ (c .row-of .ensures),
+      λ l w. given-next _ _ _ _ l w (head .loop .i) (head .loop .rows) (inv .2 l w) more (omega (arith, inv, more, head .before .before .pre)) _ (c .row-of .ensures),
     )
 
 cast-t30 : tie.Need-cast-t30 Inv-loop μ-loop
@@ -81,7 +81,7 @@ returns : tie.Need-returns Inv-loop μ-loop
 returns c =
     let head = c .before in
     let inv = head .loop .inv in
-    λ l w. rows-all _ _ _ _ l w (head .loop .i) (head .loop .rows) (inv .2 l w) (c .loop-test .left) (inv .0) (omega (arith, inv, head .before .before .pre))
+    λ l w. given-all _ _ _ _ l w (head .loop .i) (head .loop .rows) (inv .2 l w) (c .loop-test .left) (inv .0) (omega (arith, inv, head .before .before .pre))
 
 pub rows-of-spec : {M : Type 1} → statement M
 rows-of-spec =
