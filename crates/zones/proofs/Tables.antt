@@ -135,7 +135,8 @@ module _ (h d first last : ℕ) (bars : List (List ℕ)) (prices : List (List Fl
         onward t f range level m inside bigs =
             let way = member-way range level m bars prices bigs i (omega arith) in
             let here =
-            one-found (λ (x : Triple). range (getD level i no-triple)) d i (getD level i no-triple) s (λ e. opposes (way ∙ e)) (sym (member-range range level m bars prices bigs i (omega arith)) ∙ found) in
+            one-found (λ (x : Triple). range (getD level i no-triple)) d i (getD level i no-triple) s (λ e. opposes (way ∙ e))
+            (sym (member-range range level m bars prices bigs i (omega arith)) ∙ found) in
             let step : left-of range level i ≡ record { index = i; span = s } ∷ left-of range level (i + 1) =
             still-more range level d last i no-triple more (omega (arith, bigs .count)) ∙ rw here in
             rw (← f, took .1 (left-of range level (i + 1)), ← step) (now .left range level m inside bigs)
