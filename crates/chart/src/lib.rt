@@ -10,12 +10,27 @@ pub struct Stroke {
     pub end_price: f64,
 }
 
+// What stands in a place that is not counted.
+pub const NO_STROKE: Stroke = Stroke {
+    direction: 0,
+    start_bar: 0,
+    end_bar: 0,
+    start_price: 0.0,
+    end_price: 0.0,
+};
+
 // A segment, a big segment ("big") or a superior: first and last index the level below.
 pub struct Triple {
     pub direction: u8,
     pub first: u16,
     pub last: u16,
 }
+
+pub const NO_TRIPLE: Triple = Triple {
+    direction: 0,
+    first: 0,
+    last: 0,
+};
 
 // What a big covers: the smaller and the larger of its two prices, and its bars. (BigSegRange)
 pub struct Span {
@@ -50,6 +65,18 @@ pub struct Zone {
     pub first_member: u16,
     pub members: u16,
 }
+
+pub const NO_ZONE: Zone = Zone {
+    sup_idx: 0,
+    start_bar: 0,
+    end_bar: 0,
+    zd: 0.0,
+    zg: 0.0,
+    dd: 0.0,
+    gg: 0.0,
+    first_member: 0,
+    members: 0,
+};
 
 // What a third mark beat: the edge of a zone, zg for a buy and zd for a sell, or the price C of an anchor.
 pub enum Ground {
@@ -110,4 +137,17 @@ pub struct Chart {
     pub big_count: u16,
     pub superiors: [Triple; 256],
     pub superior_count: u16,
+}
+
+// A call on a live chart, with its arguments but without the chart: an add to a level, lengthen with the new last, withdraw with a level, derive
+// with its case-3 byte.
+pub enum Call {
+    Stroke(Stroke),
+    Segment(Triple),
+    Big(Triple),
+    Superior(Triple),
+    Lengthen(u16),
+    Withdraw(u8),
+    DeriveBigs(u8),
+    DeriveSuperiors(u8),
 }

@@ -59,7 +59,7 @@ fn same_zones(a: [Zone; 256], n: u16, b: [Zone; 256], m: u16) -> bool
 
 // 21 of a live call on a chart that keeps the first n of these zones.
 pub fn bad_live(chart: Chart, zones: [Zone; 256], n: u16) -> bool
-    ensures { λ r. ⌜ r ≡ badLive chart zones n ⌝ }
+    ensures { λ r. ⌜ r ≡ badLive (record { chart = chart; zones = zones; zoneCount = n }) ⌝ }
 {
     if 256 < n {
         return true;

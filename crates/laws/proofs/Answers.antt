@@ -3,7 +3,7 @@ use Prim.Native.Nat.{ℕ, zero, suc, _≤_, _<_}
 use native.Mathlib.Omega.{arith}
 use mathlib.Core.Path.{_≡_, refl, sym}
 use mathlib.Core.Bool.{Bool, true, false, cond, _||_}
-use mathlib.Core.List.{List}
+use mathlib.Core.List.{List, []}
 use lib.ListN.{length, take}
 use lib.Dec.{eqb, leb, ltb}
 use borrow.Author.Tests.{le-leb, leb-true, ltb-false}
@@ -62,6 +62,11 @@ module _ {A : Type 0} (count : ℕ) (rows : List A) (r : ℕ) (l : List A) where
       go false zero g f = absurd (refused-given f)
       go false (suc k) g f = let z : 0 ≡ suc k = cc in absurd (omega arith)
 
+  -- the number is the refusal's, 0 where there is none
+  pub rows-number : (n : ℕ) → rowsAnswer n count rows ≡ answered r l → n ≡ r
+  rows-number zero e = sym (rows-given e .accepted)
+  rows-number (suc n) e = sym (rows-refused (suc n) (λ (z : suc n ≡ 0). omega arith) e)
+
 module _ {A : Type 0} (c : Chart) (f : Levels → Answer A) where
   pub on-bad : badChart c ≡ true → onChart c f ≡ refused 21
   unfolding onChart
@@ -70,6 +75,35 @@ module _ {A : Type 0} (c : Chart) (f : Levels → Answer A) where
   pub on-good : badChart c ≡ false → onChart c f ≡ f (levelsOf c)
   unfolding onChart
   on-good e = rw e
+
+-- What a struct that stands for the answer of a call on a chart tells: the number, and where it is 0 the rows
+module _
+    {A : Type 0}
+    (c : Chart)
+    (r : Levels → ℕ)
+    (l : Levels → List A)
+    (number count : ℕ)
+    (rows : List A)
+    (e : rowsAnswer number count rows ≡ onChart c (λ (x : Levels). answered (r x) (l x)))
+  where
+    pub call-bad : badChart c ≡ true → number ≡ 21
+    unfolding onChart answered
+    call-bad b = rows-number count rows 21 [] number (rw b at e)
+
+    pub call-number : badChart c ≡ false → number ≡ r (levelsOf c)
+    unfolding onChart
+    call-number b = rows-number count rows (r (levelsOf c)) (l (levelsOf c)) number (rw b at e)
+
+    pub call-good : number ≡ 0 → badChart c ≡ false
+    call-good z = go (badChart c) refl
+      where
+        go : (t : Bool) → badChart c ≡ t → t ≡ false
+        go true b = absurd (omega (arith, call-bad b))
+        go false b = refl
+
+    pub call-rows : number ≡ 0 → Rows count rows (r (levelsOf c)) (l (levelsOf c))
+    unfolding onChart
+    call-rows z = rows-given count rows (r (levelsOf c)) (l (levelsOf c)) (rw (z, call-good z) at e)
 
 -- a chart with counts within its arrays, as one has that is not refused with 21
 pub record Counted (c : Chart) : Type 0 where

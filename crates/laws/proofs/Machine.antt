@@ -5,19 +5,17 @@ use mathlib.Core.Path.{_≡_, refl}
 use mathlib.Core.Bool.{Bool, true, false, cond, not, _||_}
 use mathlib.Core.List.{List, [], _∷_}
 use native.Mathlib.Omega.{arith}
-use lib.ListN.{length, take}
+use lib.ListN.{length}
 use lib.Dec.{eqb, ltb}
 use borrow.Author.Tests.{eqb-true, ltb-false, le-ltb, not-false}
-use Rattle.chart.specs.declared.Zone.{Zone}
 use Rattle.price.proofs.Order.{price-fits}
-use Rattle.chart.specs.declared.Chart.{Chart}
 use Rattle.rules.specs.Lists.{count}
 use Rattle.rules.specs.Records.{Levels, levelsOf}
 use Rattle.rules.specs.Zones.{overlapZones}
-use Rattle.rules.specs.Refusals.{refuse, overfull, badLevels, badChart, brokenStrokes, brokenTriples, brokenLevels, sameZones, badLive}
+use Rattle.rules.specs.Refusals.{refuse, overfull, badLevels, badChart, brokenStrokes, brokenTriples, brokenLevels, sameZones, LiveData, keptZones, badLive}
 use Rattle.rules.specs.Machine.{Call, Machine, empty, zones, refusal, stepped, countUp, step, run, answers}
 use Rattle.rules.specs.Live.{liveRefusal}
-use Rattle.laws.proofs.Tests.{or-l, or-r, pick-cond}
+use Rattle.laws.proofs.Tests.{or-i, or-l, or-r, pick-cond}
 use Rattle.laws.proofs.Ordered.{InOrder, chart-fit, in-order, not-bad, not-broken}
 use Rattle.laws.proofs.Lists.{all-map}
 use Rattle.laws.proofs.Zones.{zones-bounded, zones-256}
@@ -97,52 +95,55 @@ zones-held c h =
     })
     (zones-bounded c h)
 
-record Sound (c : Chart) (places : List Zone) (n : ℕ) : Type 0 where
-  room : overfull c ≡ false
-  ordered : InOrder (levelsOf c)
-  few : n ≤ 256
-  same : sameZones (take n places) (overlapZones (levelsOf c)) ≡ true
+record Sound (b : LiveData) : Type 0 where
+  room : overfull (b .chart) ≡ false
+  ordered : InOrder (levelsOf (b .chart))
+  few : b .zoneCount ≤ 256
+  same : sameZones (keptZones b) (overlapZones (levelsOf (b .chart))) ≡ true
 
-module _ (c : Chart) (places : List Zone) (n : ℕ) where
-  sound : badLive c places n ≡ false → Sound c places n
+module _ (b : LiveData) where
+  abbrev l : Levels
+  l = levelsOf (b .chart)
+
+  sound : badLive b ≡ false → Sound b
   unfolding badLive badChart
   sound h =
-      let l = levelsOf c in
-      let b1 = overfull c in
+      let b1 = overfull (b .chart) in
       let b2 = badLevels l in
       let b3 = brokenLevels l in
-      let b4 = ltb 256 n in
-      let s = sameZones (take n places) (overlapZones l) in
+      let b4 = ltb 256 (b .zoneCount) in
+      let s = sameZones (keptZones b) (overlapZones l) in
       let h4 = or-l (b1 || b2 || b3 || b4) (not s) h in
       let h3 = or-l (b1 || b2 || b3) b4 h4 in
       let h2 = or-l (b1 || b2) b3 h3 in
       let h1 = or-l b1 b2 h2 in
       record {
         room = h1;
-        ordered = in-order l (chart-fit c h1) (or-r b1 b2 h2) (or-r (b1 || b2) b3 h3);
-        few = ltb-false 256 n (or-r (b1 || b2 || b3) b4 h4);
+        ordered = in-order l (chart-fit (b .chart) h1) (or-r b1 b2 h2) (or-r (b1 || b2) b3 h3);
+        few = ltb-false 256 (b .zoneCount) (or-r (b1 || b2 || b3) b4 h4);
         same = not-false s (or-r (b1 || b2 || b3 || b4) (not s) h);
       }
 
-  pub not-21-ordered : badLive c places n ≡ false → InOrder (levelsOf c)
+  pub not-21-ordered : badLive b ≡ false → InOrder l
   not-21-ordered h = sound h .ordered
 
-  pub not-21-counts : badLive c places n ≡ false → (overfull c ≡ false) × (n ≤ 256)
-  not-21-counts h = let s = sound h in (s .room, s .few)
+  pub not-21-good : badLive b ≡ false → badChart (b .chart) ≡ false
+  unfolding badChart
+  not-21-good h = let s = sound h in or-i (overfull (b .chart)) (badLevels l) (s .room) (not-bad l (s .ordered))
 
   -- the zones that it keeps are the rule's, where their prices are values that an f64 holds
-  pub kept-are : HeldZones (take n places) → badLive c places n ≡ false → take n places ≡ overlapZones (levelsOf c)
+  pub kept-are : HeldZones (keptZones b) → badLive b ≡ false → keptZones b ≡ overlapZones l
   kept-are p h =
       let s = sound h in
-      same-zones-true (take n places) (overlapZones (levelsOf c)) p (zones-held (levelsOf c) (not-bad (levelsOf c) (s .ordered))) (s .same)
+      same-zones-true (keptZones b) (overlapZones l) p (zones-held l (not-bad l (s .ordered))) (s .same)
 
   -- ---- and one that keeps the rule's zones
 
-  module _ (f : overfull c ≡ false) (o : InOrder (levelsOf c)) (k : n ≤ 256) (e : take n places ≡ overlapZones (levelsOf c)) where
-    pub never-21 : badLive c places n ≡ false
+  module _ (f : overfull (b .chart) ≡ false) (o : InOrder l) (k : b .zoneCount ≤ 256) (e : keptZones b ≡ overlapZones l) where
+    pub never-21 : badLive b ≡ false
     unfolding badLive badChart
-    never-21 = simp (f, not-bad (levelsOf c) o, not-broken (levelsOf c) o, le-ltb 256 n k, e, same-zones)
+    never-21 = simp (f, not-bad l o, not-broken l o, le-ltb 256 (b .zoneCount) k, e, same-zones)
 
-    pub live-is : (call : Call) → liveRefusal c places n call ≡ refusal (levelsOf c) call
+    pub live-is : (call : Call) → liveRefusal b call ≡ refusal l call
     unfolding liveRefusal refuse
     live-is call = rw never-21

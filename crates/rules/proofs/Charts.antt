@@ -15,6 +15,7 @@ use Rattle.chart.specs.declared.NMark.{NMark}
 use Rattle.chart.specs.declared.FirstMark.{FirstMark}
 use Rattle.chart.specs.declared.Ground.the-variants as ground
 use Rattle.rules.specs.Records.{Levels, Quotes}
+use Rattle.rules.specs.Refusals.{LiveData}
 
 -- ---- prices
 
@@ -94,6 +95,10 @@ counted a b d e c =
 -- and with their own
 abbrev pub charted : Levels → Chart
 charted c = counted (length (c .strokes)) (length (c .segments)) (length (c .bigs)) (length (c .superiors)) c
+
+-- a chart that keeps the first n of these zones
+abbrev pub keeping : Chart → List Zone → ℕ → LiveData
+keeping c zs n = record { chart = c; zones = zs; zoneCount = n }
 
 -- n bars, with one high and one low
 abbrev pub flat : ℕ → ℕ → ℕ → Quotes

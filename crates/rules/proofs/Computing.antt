@@ -27,7 +27,7 @@ unfolding records.levelsOf
     zones.membersIn zones.overlapZones zones.membersOf
     machine.empty machine.zones machine.refusal machine.withStrokes machine.withSegments machine.withBigs machine.withSuperiors
     machine.lengthened machine.withdrawn machine.asTriple machine.stepped machine.step machine.run machine.answers
-    live.view live.liveRefusal live.after
+    live.view live.seen live.liveRefusal live.after
     marks.quote marks.beats marks.priceAt marks.superiorOf marks.leaving marks.reachesZone marks.superiorEnd marks.reversal
     marks.reaches marks.stops marks.pairEnds marks.scanned marks.thirdAt marks.zoneThird marks.anchorsOf marks.anchorSide
     marks.endsAfter marks.anchorPrice marks.anchorBars marks.anchorThird marks.addThird marks.thirdMarks marks.markAt marks.numbered

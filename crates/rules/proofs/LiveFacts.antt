@@ -11,15 +11,15 @@ use Rattle.chart.specs.declared.Chart.{Chart}
 use Rattle.chart.specs.declared.Zone.{Zone}
 use Rattle.rules.specs.Records.{Levels}
 use Rattle.rules.specs.Machine.{withdraw, lengthen}
-use Rattle.rules.specs.Live.{view, liveRefusal, after}
+use Rattle.rules.specs.Live.{view, seen, liveRefusal, after}
 use Rattle.rules.proofs.Computing.{everything}
-use Rattle.rules.proofs.Charts.{price, minusZero, turn, triple, levels, chartOf, counted, charted, zone}
+use Rattle.rules.proofs.Charts.{price, minusZero, turn, triple, levels, chartOf, counted, charted, keeping, zone}
 use Rattle.rules.proofs.ChartK.{K, zoneK}
-use Rattle.rules.proofs.MachineFacts.{priced, bigsK, most, mostTriples}
+use Rattle.rules.proofs.MachineFacts.{machine, priced, bigsK, most, mostTriples}
 
 -- the answer to a withdrawal of K's superior, which is accepted on K with its one zone
 abbrev on : Chart → List Zone → ℕ → ℕ
-on c zs n = liveRefusal c zs n (withdraw 3)
+on c zs n = liveRefusal (keeping c zs n) (withdraw 3)
 
 -- K with one record put in another's place
 abbrev strokeK : ℕ → Stroke → Chart
@@ -82,24 +82,26 @@ longer =
 pub record Facts : Type 0 where
   -- accepted, and what is left
   pub whole : on (charted K) (zoneK ∷ []) 1 ≡ 0
-  pub whole-after : after (view (charted K) (zoneK ∷ []) 1 25) (withdraw 3) ≡ record { levels = bigsK 8 []; zones = []; count = 26 }
+  pub whole-after : after (view (keeping (charted K) (zoneK ∷ []) 1) 25) (withdraw 3) ≡ record { levels = bigsK 8 []; zones = []; count = 26 }
   pub lengthened-after :
-      after (view (charted (bigsK 8 (triple 1 0 2 ∷ []))) (zone 0 5 9 14 20 14 20 1 1 ∷ []) 1 25) (lengthen 4)
+      after (view (keeping (charted (bigsK 8 (triple 1 0 2 ∷ []))) (zone 0 5 9 14 20 14 20 1 1 ∷ []) 1) 25) (lengthen 4)
       ≡ record { levels = K; zones = zoneK ∷ []; count = 26 }
   pub count-stops :
-      after (view (charted K) (zoneK ∷ []) 1 4294967295) (withdraw 3)
+      after (view (keeping (charted K) (zoneK ∷ []) 1) 4294967295) (withdraw 3)
       ≡ record { levels = bigsK 8 []; zones = []; count = 4294967295 }
+  -- what a live chart shows is what the machine does
+  pub seen-built : seen (machine K 25) ≡ record { levels = K; zones = zoneK ∷ []; count = 25 }
   pub all-full : on (charted full) [] 0 ≡ 0
-  pub nothing-there : liveRefusal (charted (levels [] [] [] [])) [] 0 (withdraw 3) ≡ 7
+  pub nothing-there : liveRefusal (keeping (charted (levels [] [] [] [])) [] 0) (withdraw 3) ≡ 7
   -- the call's own numbers come behind 21
-  pub own-number : liveRefusal (charted K) (zoneK ∷ []) 1 (withdraw 0) ≡ 6
-  pub before-own-number : liveRefusal (charted K) [] 0 (withdraw 4) ≡ 21
+  pub own-number : liveRefusal (keeping (charted K) (zoneK ∷ []) 1) (withdraw 0) ≡ 6
+  pub before-own-number : liveRefusal (keeping (charted K) [] 0) (withdraw 4) ≡ 21
   -- places behind a count are not looked at
   pub behind-levels : on longer (zoneK ∷ []) 1 ≡ 0
-  pub behind-levels-after : after (view longer (zoneK ∷ []) 1 25) (withdraw 3) ≡ record { levels = bigsK 8 []; zones = []; count = 26 }
+  pub behind-levels-after : after (view (keeping longer (zoneK ∷ []) 1) 25) (withdraw 3) ≡ record { levels = bigsK 8 []; zones = []; count = 26 }
   pub behind-zones : on (charted K) (zoneK ∷ edges nan nan nan nan ∷ []) 1 ≡ 0
   pub behind-zones-view :
-      view (charted K) (zoneK ∷ edges nan nan nan nan ∷ []) 1 25
+      view (keeping (charted K) (zoneK ∷ edges nan nan nan nan ∷ []) 1) 25
       ≡ record { levels = K; zones = zoneK ∷ []; count = 25 }
   -- a count above its level's size
   pub strokes-513 : on (counted 513 8 8 1 K) (zoneK ∷ []) 1 ≡ 21
@@ -167,6 +169,7 @@ facts =
       whole-after = refl;
       lengthened-after = refl;
       count-stops = refl;
+      seen-built = refl;
       all-full = refl;
       nothing-there = refl;
       own-number = refl;

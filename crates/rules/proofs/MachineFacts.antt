@@ -31,7 +31,7 @@ use Rattle.rules.proofs.ChartK.{K, zoneK}
 
 -- ---- lists and calls
 
-abbrev machine : Levels → ℕ → Machine
+abbrev pub machine : Levels → ℕ → Machine
 machine c n = record { levels = c; count = n }
 
 -- a stroke by its direction, bars and prices

@@ -15,12 +15,9 @@ use Rattle.rules.specs.Live.{liveRefusal}
 use Rattle.rules.specs.Refusals.{badChart, brokenLevels, sameZones, badLive}
 use Rattle.rules.specs.Calls.{segmentClassesCall}
 use Rattle.rules.proofs.Computing.{everything}
-use Rattle.rules.proofs.Charts.{price, triple, one-each, levels, counted, charted, zone, class}
+use Rattle.rules.proofs.Charts.{price, triple, one-each, levels, counted, charted, keeping, zone, class}
 use Rattle.rules.proofs.ChartK.{K, zoneK}
-use Rattle.rules.proofs.MachineFacts.{priced, bigsK, small, five}
-
-abbrev machine : Levels → ℕ → Machine
-machine c n = record { levels = c; count = n }
+use Rattle.rules.proofs.MachineFacts.{machine, priced, bigsK, small, five}
 
 -- K's strokes and segments under three bigs of several segments
 abbrev three : List Triple
@@ -35,7 +32,7 @@ four = levels (take 4 (K .strokes)) (take 4 (K .segments)) (take 4 (K .bigs)) (t
 
 -- the answer to a withdrawal of the last superior, of a chart that keeps these zones, the first n
 abbrev on : Levels → List Zone → ℕ → ℕ
-on c zs n = liveRefusal (charted c) zs n (withdraw 3)
+on c zs n = liveRefusal (keeping (charted c) zs n) (withdraw 3)
 
 -- K with a second superior, and its zone as one of superior h
 abbrev twoSuperiors : Levels
@@ -95,7 +92,7 @@ pub record Facts : Type 0 where
   pub kept-superior-before : on twoSuperiors (zoneK ∷ second 0 ∷ []) 2 ≡ 21
   -- 256 kept zones are not refused for their number, whatever the chart
   pub kept-256 :
-      (c : Chart) (places : List Zone) → badLive c places 256
+      (c : Chart) (places : List Zone) → badLive (keeping c places 256)
       ≡ (badChart c || brokenLevels (levelsOf c) || not (sameZones (take 256 places) (overlapZones (levelsOf c))))
 
 -- ---- proofs
@@ -105,7 +102,7 @@ or-false true = refl
 or-false false = refl
 
 kept :
-    (c : Chart) (places : List Zone) → badLive c places 256
+    (c : Chart) (places : List Zone) → badLive (keeping c places 256)
     ≡ (badChart c || brokenLevels (levelsOf c) || not (sameZones (take 256 places) (overlapZones (levelsOf c))))
 unfolding badLive
 kept c places =

@@ -4,13 +4,11 @@
 -- struct of the code (crate `live`, `Did.liveAnswer`). What it leaves: `Machine.stepped`, `after` here, `Did.stepped`. Assumes nothing.
 use Prim.Native.Nat.{ℕ}
 use mathlib.Core.List.{List}
-use lib.ListN.{take}
 use Rattle.chart.specs.declared.Zone.{Zone}
-use Rattle.chart.specs.declared.Chart.{Chart}
 use Rattle.rules.specs.Records.{Levels, levelsOf}
 use Rattle.rules.specs.Zones.{overlapZones}
-use Rattle.rules.specs.Refusals.{refuse, badLive}
-use Rattle.rules.specs.Machine.{Call, refusal, stepped, countUp}
+use Rattle.rules.specs.Refusals.{refuse, LiveData, keptZones, badLive}
+use Rattle.rules.specs.Machine.{Call, Machine, zones, refusal, stepped, countUp}
 
 -- the part of a live chart that counts
 pub record View : Type 0 where
@@ -18,13 +16,16 @@ pub record View : Type 0 where
   pub zones : List Zone
   pub count : ℕ
 
--- of a chart that keeps the first n of some places of zones
-unfoldable pub view : Chart → List Zone → ℕ → ℕ → View
-view c places n count = record { levels = levelsOf c; zones = take n places; count = count }
+unfoldable pub view : LiveData → ℕ → View
+view b count = record { levels = levelsOf (b .chart); zones = keptZones b; count = count }
+
+-- what the machine's state shows of it
+unfoldable pub seen : Machine → View
+seen m = record { levels = m .levels; zones = zones m; count = m .count }
 
 -- 21 first, then the call's own numbers, read on the chart's lists
-unfoldable pub liveRefusal : Chart → List Zone → ℕ → Call → ℕ
-liveRefusal c places n k = refuse (badLive c places n) 21 (refusal (levelsOf c) k)
+unfoldable pub liveRefusal : LiveData → Call → ℕ
+liveRefusal b k = refuse (badLive b) 21 (refusal (levelsOf (b .chart)) k)
 
 -- what an accepted call leaves: the lists stepped, the overlap rule's zones of the new lists, one more in the count
 unfoldable pub after : View → Call → View

@@ -8,6 +8,8 @@ use Rattle.chart.specs.declared.Stroke.{Stroke}
 use Rattle.chart.specs.declared.Triple.{Triple}
 use Rattle.chart.specs.declared.Class.{Class}
 use Rattle.chart.specs.declared.Zone.{Zone}
+use Rattle.chart.specs.declared.Call as code
+use Rattle.chart.specs.declared.Call.the-variants as variant
 use Rattle.rules.specs.Records.{Levels}
 use Rattle.rules.specs.Zones.{overlapZones}
 use Rattle.rules.specs.Classes.{segmentClasses, bigClasses}
@@ -23,6 +25,17 @@ pub data Call : Type 0 where
   withdraw : ℕ → Call
   deriveBigs : ℕ → Call
   deriveSuperiors : ℕ → Call
+
+-- the call that a value of the code's enum is
+abbrev pub callOf : code.Call → Call
+callOf (variant.Stroke s) = addStroke s
+callOf (variant.Segment t) = addSegment t
+callOf (variant.Big t) = addBig t
+callOf (variant.Superior t) = addSuperior t
+callOf (variant.Lengthen last) = lengthen last
+callOf (variant.Withdraw level) = withdraw level
+callOf (variant.DeriveBigs byte) = deriveBigs byte
+callOf (variant.DeriveSuperiors byte) = deriveSuperiors byte
 
 -- four lists, empty at first, and a count from 0
 pub record Machine : Type 0 where

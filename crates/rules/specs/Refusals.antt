@@ -108,10 +108,20 @@ sameZones [] (b ∷ bs) = false
 sameZones (a ∷ as′) [] = false
 sameZones (a ∷ as′) (b ∷ bs) = sameZone a b && sameZones as′ bs
 
--- 21 of a live call on a chart that keeps the first n of 256 places of zones
-unfoldable pub badLive : Chart → List Zone → ℕ → Bool
-badLive c places n =
-    badChart c || brokenLevels (levelsOf c) || ltb 256 n || not (sameZones (take n places) (overlapZones (levelsOf c)))
+-- what 21 of a live call looks at: a chart, and the zones that it keeps, the first `zoneCount` of 256 places
+pub record LiveData : Type 0 where
+  pub chart : Chart
+  pub zones : List Zone
+  pub zoneCount : ℕ
+
+abbrev pub keptZones : LiveData → List Zone
+keptZones b = take (b .zoneCount) (b .zones)
+
+-- 21 of a live call
+unfoldable pub badLive : LiveData → Bool
+badLive b =
+    badChart (b .chart) || brokenLevels (levelsOf (b .chart)) || ltb 256 (b .zoneCount)
+    || not (sameZones (keptZones b) (overlapZones (levelsOf (b .chart))))
 
 -- ---- the machine's calls
 

@@ -19,7 +19,7 @@ given : (c : tie.Else2) → c .before .before .detect-bigseg-zhongshus-by-overla
 given c = omega (arith, c .if2 .left)
 
 returns : tie.Need-returns
-returns c = live-count _ _ _ (omega (arith, c .if1 .taken))
+returns c = live-count _ (omega (arith, c .if1 .taken))
 
 detect-bigseg-zhongshus-by-overlap-requires : tie.Need-detect-bigseg-zhongshus-by-overlap-requires
 detect-bigseg-zhongshus-by-overlap-requires c κs = search needs
@@ -27,7 +27,7 @@ detect-bigseg-zhongshus-by-overlap-requires c κs = search needs
 returns-2 : tie.Need-returns-2
 returns-2 c =
     let found = c .before .before in
-    live-refused _ _ _ (few (found .before)) _ _ _ (found .detect-bigseg-zhongshus-by-overlap .ensures) (λ z. absurd (omega (arith, z, c .if2 .taken)))
+    live-refused _ (few (found .before)) _ _ _ (found .detect-bigseg-zhongshus-by-overlap .ensures) (λ z. absurd (omega (arith, z, c .if2 .taken)))
 
 broken-levels-requires : tie.Need-broken-levels-requires
 broken-levels-requires c κs = found-room _ _ _ _ (c .before .before .detect-bigseg-zhongshus-by-overlap .ensures) (given c)
@@ -47,7 +47,7 @@ returns-3 c =
     let asked = c .before .before in
     let at2 = asked .before in
     let found = at2 .before .before in
-    live-given _ _ _ (few (found .before)) _ _ _ (found .detect-bigseg-zhongshus-by-overlap .ensures) _ _ (given at2)
+    live-given _ (few (found .before)) _ _ _ (found .detect-bigseg-zhongshus-by-overlap .ensures) _ _ (given at2)
     (asked .broken-levels .ensures) (c .same-zones .ensures)
 
 pub bad-live-spec : {M : Type 1} → statement M
