@@ -128,6 +128,9 @@ counts c f =
       superiors = ltb-false 256 (c .«superior_count») (or-r (f0 || f1 || f2) f3 f);
     }
 
-pub counted : (c : Chart) → badChart c ≡ false → Counted c
+pub room : (c : Chart) → badChart c ≡ false → overfull c ≡ false
 unfolding badChart
-counted c h = counts c (or-l (overfull c) (badLevels (levelsOf c)) h)
+room c h = or-l (overfull c) (badLevels (levelsOf c)) h
+
+pub counted : (c : Chart) → badChart c ≡ false → Counted c
+counted c h = counts c (room c h)

@@ -7,6 +7,7 @@ use mathlib.Core.List.{List, [], _∷_, _++_, map}
 use mathlib.Core.Option.{none, some}
 use lib.ListN.{length, getD, getElem?, set, take, drop, length-map, drop-of-length-le}
 use lib.Seq.{drop-cons, getD-take, length-take-le, take-suc-set}
+use Rattle.chart.specs.declared.Chart.{Chart}
 
 module _ {A : Type 0} where
   pub at-in : (n i : ℕ) (xs : List A) (d : A) → i < n → i < length xs → getElem? (take n xs) i ≡ some (getD xs i d)
@@ -37,3 +38,14 @@ one-more xs i a h = rw (add-one i, take-suc-set xs i a h)
 -- what owning a struct tells of a field that is an array of structs: the list of its elements' rows is as long as the array
 pub length-via : (X Y : Type 0) (f : X → Y) (l : List X) (n : ℕ) → length (map f l) ≡ n → length l ≡ n
 length-via X Y f l n e = sym (length-map l f) ∙ e
+
+-- the arrays of a chart have their sizes, by what owning it tells of each
+pub record Sized (c : Chart) : Type 0 where
+  pub strokes : length (c .strokes) ≡ 512
+  pub segments : length (c .segments) ≡ 256
+  pub bigs : length (c .bigs) ≡ 256
+  pub superiors : length (c .superiors) ≡ 256
+
+pub sized-via :
+    (c : Chart) → length (c .strokes) ≡ 512 → length (c .segments) ≡ 256 → length (c .bigs) ≡ 256 → length (c .superiors) ≡ 256 → Sized c
+sized-via c s g b u = record { strokes = s; segments = g; bigs = b; superiors = u }

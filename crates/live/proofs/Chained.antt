@@ -1,34 +1,43 @@
 -- Calls on a live chart that begins with nothing in it do what the plain machine does. Assumes nothing.
 use Prim.Native.Nat.{ℕ, zero, suc, _≤_, min}
 use mathlib.Core.Path.{_≡_, refl, sym, ap, subst, _∙_}
-use mathlib.Core.Bool.{Bool, false, _||_}
+use mathlib.Core.Bool.{false}
 use mathlib.Core.List.{List, [], _∷_}
 use native.Mathlib.Omega.{arith}
 use lib.ListN.{length, take}
 use lib.Dec.{eqb, ltb}
 use borrow.Author.Tests.{le-ltb, ne-eqb}
-use Rattle.chart.specs.declared.Chart.{Chart}
 use Rattle.rules.specs.Records.{Levels, levelsOf}
 use Rattle.rules.specs.Lists.{count}
 use Rattle.rules.specs.Zones.{overlapZones, zonesFrom}
-use Rattle.rules.specs.Refusals.{overfull, badLive}
+use Rattle.rules.specs.Refusals.{overfull, keptZones, badLive}
 use Rattle.rules.specs.Machine.{Call, Machine, empty, zones, refusal, stepped, countUp, step, run, answers}
-use Rattle.rules.specs.Live.{View, view, after}
-use Rattle.laws.proofs.Tests.{or-i}
+use Rattle.rules.specs.Live.{View, view, seen, liveRefusal, after}
 use Rattle.laws.proofs.Ordered.{InOrder, not-broken}
 use Rattle.laws.proofs.Zones.{zones-256}
 use Rattle.laws.proofs.Machine.{step-ordered, run-ordered, count-is, never-21, live-is}
 use Rattle.live.specs.declared.Live.{Live}
-use Rattle.live.specs.Did.{part, liveAnswer, TrueCounts, Did, Nothing}
+use Rattle.live.specs.Did.{dataOf, part, TrueCounts, Did, Nothing}
 use Rattle.live.specs.Sequence.{Chain, done, next, AsMachine, Sequence}
 
--- a live chart is as a machine: the same records and count, the rule's zones, true counts; and the records are in order
+-- a live chart is as a machine: the same records, count and zones, and true counts; and the records are in order
 record Agrees (m : Machine) (b : Live) : Type 0 where
-  levels : levelsOf (b .chart) ≡ m .levels
-  zones : take (b .«zone_count») (b .zones) ≡ overlapZones (m .levels)
-  count : b .count ≡ m .count
+  same : part b ≡ seen m
   told : TrueCounts b
   ordered : InOrder (m .levels)
+
+module _ (m : Machine) (b : Live) (e : part b ≡ seen m) where
+  levels-same : levelsOf (b .chart) ≡ m .levels
+  unfolding part view seen
+  levels-same = ap (λ (v : View). v .levels) e
+
+  zones-same : keptZones (dataOf b) ≡ zones m
+  unfolding part view seen
+  zones-same = ap (λ (v : View). v .zones) e
+
+  count-same : b .count ≡ m .count
+  unfolding part view seen
+  count-same = ap (λ (v : View). v .count) e
 
 -- ---- no 21
 
@@ -45,31 +54,27 @@ fits b t o =
     let f3 = at-most 256 (c .«superior_count») (length (take (c .«superior_count») (c .superiors))) (t .superiors) (o .superiors .fit) in
     simp (f0, f1, f2, f3)
 
-few : (b : Live) → TrueCounts b → (c : Levels) → InOrder c → take (b .«zone_count») (b .zones) ≡ overlapZones c → b .«zone_count» ≤ 256
-few b t c o e =
-    let k = zones-256 c (not-broken c o) (o .bigs .fit) in
-    let l = ap length e in
-    let z = t .zones in
-    omega arith
-
 module _ (m : Machine) (b : Live) (a : Agrees m b) where
-  ordered-here : InOrder (levelsOf (b .chart))
-  ordered-here = subst InOrder (sym (a .levels)) (a .ordered)
+  abbrev l : Levels
+  l = levelsOf (b .chart)
 
-  zones-here : take (b .«zone_count») (b .zones) ≡ overlapZones (levelsOf (b .chart))
-  zones-here = a .zones ∙ ap overlapZones (sym (a .levels))
+  ordered-here : InOrder l
+  ordered-here = subst InOrder (sym (levels-same m b (a .same))) (a .ordered)
+
+  zones-here : keptZones (dataOf b) ≡ overlapZones l
+  unfolding zones
+  zones-here = zones-same m b (a .same) ∙ ap overlapZones (sym (levels-same m b (a .same)))
 
   few-here : b .«zone_count» ≤ 256
-  few-here = few b (a .told) (levelsOf (b .chart)) ordered-here zones-here
+  few-here = omega (arith, zones-256 l (not-broken l ordered-here) (ordered-here .bigs .fit), ap length zones-here, a .told .zones)
 
-  not-21 : badLive (b .chart) (b .zones) (b .«zone_count») ≡ false
-  not-21 = never-21 (b .chart) (b .zones) (b .«zone_count») (fits b (a .told) ordered-here) ordered-here few-here zones-here
+  not-21 : badLive (dataOf b) ≡ false
+  not-21 = never-21 (dataOf b) (fits b (a .told) ordered-here) ordered-here few-here zones-here
 
-  answer-is : (k : Call) → liveAnswer b k ≡ refusal (m .levels) k
-  unfolding liveAnswer
+  answer-is : (k : Call) → liveRefusal (dataOf b) k ≡ refusal (m .levels) k
   answer-is k =
-      live-is (b .chart) (b .zones) (b .«zone_count») (fits b (a .told) ordered-here) ordered-here few-here zones-here k
-      ∙ ap (λ (c : Levels). refusal c k) (a .levels)
+      live-is (dataOf b) (fits b (a .told) ordered-here) ordered-here few-here zones-here k
+      ∙ ap (λ (c : Levels). refusal c k) (levels-same m b (a .same))
 
 -- ---- one call
 
@@ -84,26 +89,20 @@ step-no : (m : Machine) (k : Call) (n : ℕ) → refusal (m .levels) k ≡ suc n
 unfolding step
 step-no m k n e = rw (e, ne-eqb (suc n) 0 (λ (h : suc n ≡ 0). omega arith))
 
-accepted : (m : Machine) (b d : Live) (k : Call) → Agrees m b → InOrder (stepped (m .levels) k) → part d ≡ after (part b) k → TrueCounts d → Agrees (moved m k) d
-unfolding part view after
-accepted m b d k a o e t =
-    let l : levelsOf (d .chart) ≡ stepped (levelsOf (b .chart)) k = ap (λ (v : View). v .levels) e in
-    let z : take (d .«zone_count») (d .zones) ≡ overlapZones (stepped (levelsOf (b .chart)) k) = ap (λ (v : View). v .zones) e in
-    let n : d .count ≡ countUp (b .count) = ap (λ (v : View). v .count) e in
-    record {
-      levels = l ∙ ap (λ (c : Levels). stepped c k) (a .levels);
-      zones = z ∙ ap (λ (c : Levels). overlapZones (stepped c k)) (a .levels);
-      count = n ∙ ap countUp (a .count);
-      told = t;
-      ordered = o;
-    }
+-- what an accepted call leaves is what the machine then shows
+seen-after : (m : Machine) (k : Call) → after (seen m) k ≡ seen (moved m k)
+unfolding after seen zones
+seen-after m k = refl
 
 after-call : (m : Machine) (b d : Live) (k : Call) (n : ℕ) → Agrees m b → Did b k n d → Agrees (step m k) d
 after-call m b d k zero a h =
     let e : refusal (m .levels) k ≡ 0 = sym (h .number ∙ answer-is m b a k) in
     let s = step-yes m k e in
-    let o = subst (λ (x : Machine). InOrder (x .levels)) s (step-ordered m (a .ordered) k) in
-    subst (λ (x : Machine). Agrees x d) (sym s) (accepted m b d k a o (h .stepped refl) (h .told refl))
+    record {
+      same = h .stepped refl ∙ ap (λ (v : View). after v k) (a .same) ∙ seen-after m k ∙ ap seen (sym s);
+      told = h .told refl;
+      ordered = step-ordered m (a .ordered) k;
+    }
 after-call m b d k (suc n) a h =
     let e : refusal (m .levels) k ≡ suc n = sym (h .number ∙ answer-is m b a k) in
     let s : d ≡ b = h .same (λ (z : suc n ≡ 0). omega arith) in
@@ -130,19 +129,19 @@ true-none : {A : Type 0} (n : ℕ) (xs : List A) → n ≡ 0 → length (take n 
 true-none n xs e = rw e
 
 from-nothing : (b : Live) → Nothing b → Agrees empty b
-unfolding levelsOf empty overlapZones zonesFrom run
+unfolding part view seen zones levelsOf empty overlapZones zonesFrom run
 from-nothing b h =
     let c = b .chart in
     record {
-      levels =
+      same =
           rw (
             nothing-cut (c .«stroke_count») (c .strokes) (h .strokes),
             nothing-cut (c .«segment_count») (c .segments) (h .segments),
             nothing-cut (c .«big_count») (c .bigs) (h .bigs),
             nothing-cut (c .«superior_count») (c .superiors) (h .superiors),
+            nothing-cut (b .«zone_count») (b .zones) (h .zones),
+            h .count,
           );
-      zones = nothing-cut (b .«zone_count») (b .zones) (h .zones);
-      count = h .count;
       told =
           record {
             strokes = true-none (c .«stroke_count») (c .strokes) (h .strokes);
@@ -155,17 +154,26 @@ from-nothing b h =
     }
 
 pub sequence : Sequence
-unfolding zones
 sequence b d ks ns h t =
     let r = runs empty b d ks ns (from-nothing b h) t in
     let a = r .agrees in
-    let n = a .count ∙ count-is ks in
+    let n = count-same (run empty ks) d (a .same) ∙ count-is ks in
     record {
       answers-are = r .answered;
-      levels-are = a .levels;
-      count-is = a .count;
-      zones-are = a .zones;
+      part-is = a .same;
       counted = n ∙ ap (λ (l : List ℕ). min (count (λ (x : ℕ). eqb x 0) l) 4294967295) (sym (r .answered));
       in-order = not-21 (run empty ks) d a;
       true-counts = a .told;
     }
+
+-- ---- the equation's three parts
+
+module _ (ks : List Call) (ns : List ℕ) (d : Live) (a : AsMachine ks ns d) where
+  pub levels-are : levelsOf (d .chart) ≡ run empty ks .levels
+  levels-are = levels-same (run empty ks) d (a .part-is)
+
+  pub zones-are : keptZones (dataOf d) ≡ zones (run empty ks)
+  zones-are = zones-same (run empty ks) d (a .part-is)
+
+  pub count-is-run : d .count ≡ run empty ks .count
+  count-is-run = count-same (run empty ks) d (a .part-is)

@@ -12,21 +12,21 @@ use borrow.Author.Tests.{not-false}
 use Rattle.chart.specs.declared.Triple.{Triple}
 use Rattle.chart.specs.declared.Class.{Class}
 use Rattle.chart.specs.declared.Chart.{Chart}
-use Rattle.rules.specs.Answer.{Answer, answered, rowsAnswer}
+use Rattle.rules.specs.Answer.{rowsAnswer}
 use Rattle.rules.specs.Lists.{isEmpty}
 use Rattle.rules.specs.Records.{Levels, levelsOf}
 use Rattle.rules.specs.Classes.{segmentClasses, bigClasses}
 use Rattle.rules.specs.Refusals.{refuse, aboveOne, deriveRefusal, segmentClassesRefusal, bigClassesRefusal}
-use Rattle.rules.specs.Calls.{onChart, segmentClassesCall, bigClassesCall}
+use Rattle.rules.specs.Calls.{segmentClassesCall, bigClassesCall}
 use Rattle.rules.specs.Machine.{Call, deriveBigs, deriveSuperiors, asTriple, refusal, stepped, withBigs, withSuperiors}
 use Rattle.laws.proofs.Tests.{refuse-no, refuse-on}
 use Rattle.laws.proofs.Arrays.{one-more}
 use Rattle.laws.proofs.Lists.{map-append}
 use Rattle.laws.proofs.Whole.{never-10-segments, never-10-bigs}
-use Rattle.laws.proofs.Answers.{Counted, counted, on-good, Rows}
+use Rattle.laws.proofs.Answers.{counted, call-number, call-rows}
 use Rattle.live.specs.Steps.{Accepts, Steps}
-use Rattle.live.proofs.Outcomes.{ordered, rows-of}
-use Rattle.live.proofs.Levelled.{Level, big, superior, put, places, many, withLevel, put-is, put-fits}
+use Rattle.live.proofs.Outcomes.{ordered}
+use Rattle.live.proofs.Levelled.{Above, Level, above, big, superior, put, places, many, withLevel, put-is, put-fits}
 
 -- ---- an accepted derive: the byte is 0 or 1, and the level is empty
 
@@ -52,50 +52,66 @@ pub one-class-more :
 one-class-more i ts ks d t h w e c =
     rw (one-more ts i t h, c, e, add-one, take-suc ks i d w, map-append asTriple (take i ks) (getD ks i d ∷ []))
 
--- ---- the classes, and the chart that has them for its records
+-- ---- the chart that has the classes for its records
 
-module _ (c : Chart) (k : Call) (l : Level) (ks : List Class) where
+-- the classes ks, counted and in the first rows
+pub record Found (count : ℕ) (rows ks : List Class) : Type 0 where
+  pub few : count ≤ length rows
+  pub same : take count rows ≡ ks
+
+module _ (c : Chart) (k : Call) (u : Above) (ks : List Class) where
+  abbrev l : Level
+  l = above u
+
   -- a call that appends these classes to an empty level
-  pub record Appends : Type 0 where
-    pub steps : stepped (levelsOf c) k ≡ withLevel l (levelsOf c) (take (many l c) (places l c) ++ map asTriple ks)
-    pub none-yet : take (many l c) (places l c) ≡ []
-
-  pub derive-does :
-      Accepts c k → Appends → (count : ℕ) (rows : List Class) (triples : List Triple) → count ≤ 256 → take count rows ≡ ks
+  does :
+      Accepts c k → stepped (levelsOf c) k ≡ withLevel l (levelsOf c) (take (many l c) (places l c) ++ map asTriple ks)
+      → take (many l c) (places l c) ≡ []
+      → (count : ℕ) (rows : List Class) (triples : List Triple) → count ≤ 256 → take count rows ≡ ks
       → take count triples ≡ map asTriple (take count rows) → Steps c k (put l c triples count)
-  derive-does a d count rows triples few r e =
+  does a steps none count rows triples few r e =
       record {
         levels =
             put-is c l triples count ∙ ap (withLevel l (levelsOf c)) (e ∙ ap (map asTriple) r)
-            ∙ ap (λ (ts : List Triple). withLevel l (levelsOf c) (ts ++ map asTriple ks)) (sym (d .none-yet))
-            ∙ sym (d .steps);
+            ∙ ap (λ (ts : List Triple). withLevel l (levelsOf c) (ts ++ map asTriple ks)) (sym none)
+            ∙ sym steps;
         fits = put-fits c l triples count (counted c (a .good)) few;
       }
 
+module _ (c : Chart) (byte : ℕ) where
+  module _ (a : Accepts c (deriveBigs byte)) where
+    pub bigs-does :
+        (count : ℕ) (rows : List Class) (triples : List Triple) → count ≤ 256 → take count rows ≡ segmentClasses (eqb byte 1) (levelsOf c)
+        → take count triples ≡ map asTriple (take count rows) → Steps c (deriveBigs byte) (put (above big) c triples count)
+    unfolding stepped refusal levelsOf
+    bigs-does = does c (deriveBigs byte) big _ a refl (is-empty _ byte (a .accepted))
+
+  module _ (a : Accepts c (deriveSuperiors byte)) where
+    pub superiors-does :
+        (count : ℕ) (rows : List Class) (triples : List Triple) → count ≤ 256 → take count rows ≡ bigClasses (eqb byte 1) (levelsOf c)
+        → take count triples ≡ map asTriple (take count rows) → Steps c (deriveSuperiors byte) (put (above superior) c triples count)
+    unfolding stepped refusal levelsOf
+    superiors-does = does c (deriveSuperiors byte) superior _ a refl (is-empty _ byte (a .accepted))
+
+-- ---- the classes that the class calls give: 2 was asked before, and 10 cannot arise
+
 module _ (c : Chart) (byte number count : ℕ) (rows : List Class) where
-  pub bigs-appended : Accepts c (deriveBigs byte) → Appends c (deriveBigs byte) big (segmentClasses (eqb byte 1) (levelsOf c))
-  unfolding stepped refusal levelsOf
-  bigs-appended a = record { steps = refl; none-yet = is-empty _ byte (a .accepted) }
-
-  pub superiors-appended : Accepts c (deriveSuperiors byte) → Appends c (deriveSuperiors byte) superior (bigClasses (eqb byte 1) (levelsOf c))
-  unfolding stepped refusal levelsOf
-  superiors-appended a = record { steps = refl; none-yet = is-empty _ byte (a .accepted) }
-
-  pub segment-rows :
+  pub bigs-found :
       Accepts c (deriveBigs byte) → rowsAnswer number count rows ≡ segmentClassesCall c byte
-      → Rows count rows 0 (segmentClasses (eqb byte 1) (levelsOf c))
+      → Found count rows (segmentClasses (eqb byte 1) (levelsOf c))
   unfolding segmentClassesCall refusal
-  segment-rows a e =
-      let l = levelsOf c in
-      rows-of number count rows (segmentClasses (eqb byte 1) l)
-      (e ∙ on-good c (λ (x : Levels). answered (segmentClassesRefusal byte x) (segmentClasses (eqb byte 1) x)) (a .good)
-      ∙ ap (λ (n : ℕ). answered n (segmentClasses (eqb byte 1) l)) (never-10-segments l (ordered c _ a) byte ∙ good-byte _ byte (a .accepted)))
+  bigs-found a e =
+      let z = never-10-segments (levelsOf c) (ordered c _ a) byte ∙ good-byte _ byte (a .accepted) in
+      let n = call-number c (segmentClassesRefusal byte) (segmentClasses (eqb byte 1)) number count rows e (a .good) in
+      let r = call-rows c (segmentClassesRefusal byte) (segmentClasses (eqb byte 1)) number count rows e (n ∙ z) in
+      record { few = r .few; same = r .same }
 
-  pub big-rows :
-      Accepts c (deriveSuperiors byte) → rowsAnswer number count rows ≡ bigClassesCall c byte → Rows count rows 0 (bigClasses (eqb byte 1) (levelsOf c))
+  pub superiors-found :
+      Accepts c (deriveSuperiors byte) → rowsAnswer number count rows ≡ bigClassesCall c byte
+      → Found count rows (bigClasses (eqb byte 1) (levelsOf c))
   unfolding bigClassesCall refusal
-  big-rows a e =
-      let l = levelsOf c in
-      rows-of number count rows (bigClasses (eqb byte 1) l)
-      (e ∙ on-good c (λ (x : Levels). answered (bigClassesRefusal byte x) (bigClasses (eqb byte 1) x)) (a .good)
-      ∙ ap (λ (n : ℕ). answered n (bigClasses (eqb byte 1) l)) (never-10-bigs l (ordered c _ a) byte ∙ good-byte _ byte (a .accepted)))
+  superiors-found a e =
+      let z = never-10-bigs (levelsOf c) (ordered c _ a) byte ∙ good-byte _ byte (a .accepted) in
+      let n = call-number c (bigClassesRefusal byte) (bigClasses (eqb byte 1)) number count rows e (a .good) in
+      let r = call-rows c (bigClassesRefusal byte) (bigClasses (eqb byte 1)) number count rows e (n ∙ z) in
+      record { few = r .few; same = r .same }

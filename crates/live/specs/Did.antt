@@ -4,17 +4,18 @@ use Prim.Native.Nat.{ℕ}
 use mathlib.Core.Path.{_≡_}
 use mathlib.Core.Logic.{_≢_}
 use lib.ListN.{length, take}
+use Rattle.rules.specs.Refusals.{LiveData}
 use Rattle.rules.specs.Machine.{Call}
 use Rattle.rules.specs.Live.{View, view, liveRefusal, after}
 use Rattle.live.specs.declared.Live.{Live}
 
+-- what 21 of a call on a live chart looks at
+abbrev pub dataOf : Live → LiveData
+dataOf b = record { chart = b .chart; zones = b .zones; zoneCount = b .«zone_count» }
+
 -- the part of a live chart that counts: its levels, the zones that it keeps, its count of accepted calls
 unfoldable pub part : Live → View
-part b = view (b .chart) (b .zones) (b .«zone_count») (b .count)
-
--- the number that a call is answered with: 21 first, then the call's own, 0 where it is accepted
-unfoldable pub liveAnswer : Live → Call → ℕ
-liveAnswer b k = liveRefusal (b .chart) (b .zones) (b .«zone_count») k
+part b = view (dataOf b) (b .count)
 
 -- every count is true: each is the length of the list that it cuts off, so that none is above its array's size
 pub record TrueCounts (b : Live) : Type 0 where
@@ -24,10 +25,10 @@ pub record TrueCounts (b : Live) : Type 0 where
   pub superiors : length (take (b .chart .«superior_count») (b .chart .superiors)) ≡ b .chart .«superior_count»
   pub zones : length (take (b .«zone_count») (b .zones)) ≡ b .«zone_count»
 
--- A call k on the chart b is answered with n and hands back d. A refused one hands back the very chart; an accepted one steps the part that
--- counts, and the counts that it hands back are true
+-- A call k on the chart b is answered with n, 21 first, then the call's own number, 0 where it is accepted, and hands back d. A refused one
+-- hands back the very chart; an accepted one steps the part that counts, and the counts that it hands back are true
 pub record Did (b : Live) (k : Call) (n : ℕ) (d : Live) : Type 0 where
-  pub number : n ≡ liveAnswer b k
+  pub number : n ≡ liveRefusal (dataOf b) k
   pub same : n ≢ 0 → d ≡ b
   pub stepped : n ≡ 0 → part d ≡ after (part b) k
   pub told : n ≡ 0 → TrueCounts d

@@ -1,21 +1,21 @@
 // The live chart: built call by call, it keeps its overlap zones and counts the accepted calls.
+use chart::Call;
 use chart::Chart;
 use chart::Class;
+use chart::NO_STROKE;
+use chart::NO_TRIPLE;
+use chart::NO_ZONE;
 use chart::Stroke;
 use chart::Triple;
 use chart::Zone;
 ghost use mathlib.Core.Path.{_≡_};
-ghost use mathlib.Core.Bool.{false};
 ghost use mathlib.Core.List.{map};
 ghost use Prim.Native.Nat.{_≤_};
-ghost use lib.ListN.{length, take};
-ghost use Rattle.rules.specs.Records.{levelsOf};
-ghost use Rattle.rules.specs.Zones.{overlapZones};
-ghost use Rattle.rules.specs.Refusals.{overfull, badChart};
-ghost use Rattle.rules.specs.Machine.{addStroke, addSegment, addBig, addSuperior, lengthen, withdraw, deriveBigs, deriveSuperiors, asTriple, countUp, refusal};
-ghost use Rattle.rules.specs.Live.{liveRefusal};
-ghost use Rattle.live.specs.Did.{Nothing, Did};
-ghost use Rattle.live.specs.Steps.{callOf, Accepts, Steps, Renewed};
+ghost use lib.ListN.{take};
+ghost use Rattle.rules.specs.Refusals.{badLive};
+ghost use Rattle.rules.specs.Machine.{addStroke, addSegment, addBig, addSuperior, lengthen, withdraw, deriveBigs, deriveSuperiors, callOf, asTriple, countUp};
+ghost use Rattle.live.specs.Did.{dataOf, Nothing, Did};
+ghost use Rattle.live.specs.Steps.{Accepts, Steps, Renews};
 
 // A chart that calls build. It keeps the first `zone_count` zones, and counts accepted calls; what lies behind a count is not part of it.
 pub struct Live {
@@ -24,32 +24,6 @@ pub struct Live {
     pub zone_count: u16,
     pub count: u32,
 }
-
-const NO_STROKE: Stroke = Stroke {
-    direction: 0,
-    start_bar: 0,
-    end_bar: 0,
-    start_price: 0.0,
-    end_price: 0.0,
-};
-
-const NO_TRIPLE: Triple = Triple {
-    direction: 0,
-    first: 0,
-    last: 0,
-};
-
-const NO_ZONE: Zone = Zone {
-    sup_idx: 0,
-    start_bar: 0,
-    end_bar: 0,
-    zd: 0.0,
-    zg: 0.0,
-    dd: 0.0,
-    gg: 0.0,
-    first_member: 0,
-    members: 0,
-};
 
 // A chart with nothing in it.
 pub fn new() -> Live
@@ -73,123 +47,7 @@ pub fn new() -> Live
     }
 }
 
-// A call on a live chart, with its arguments but without the chart.
-enum Call {
-    Stroke(Stroke),
-    Segment(Triple),
-    Big(Triple),
-    Superior(Triple),
-    Lengthen(u16),
-    Withdraw(u8),
-    Bigs(u8),
-    Superiors(u8),
-}
-
-// ---- numbers
-
-// The call's own number, on a chart with true counts.
-fn own_number(chart: Chart, call: Call) -> u8
-    requires { ⌜ overfull chart ≡ false ⌝ }
-    ensures { λ r. ⌜ r ≡ refusal (levelsOf chart) (callOf call) ⌝ }
-{
-    match call {
-        Call::Stroke(s) => {
-            return calls::stroke_refusal(chart, s);
-        }
-        Call::Segment(t) => {
-            let level = chart.segments;
-            return calls::triple_refusal(level, chart.segment_count, chart.stroke_count, t);
-        }
-        Call::Big(t) => {
-            let level = chart.bigs;
-            return calls::triple_refusal(level, chart.big_count, chart.segment_count, t);
-        }
-        Call::Superior(t) => {
-            let level = chart.superiors;
-            return calls::triple_refusal(level, chart.superior_count, chart.big_count, t);
-        }
-        Call::Lengthen(last) => {
-            let level = chart.superiors;
-            return calls::lengthen_refusal(level, chart.superior_count, chart.big_count, last);
-        }
-        Call::Withdraw(level) => {
-            return calls::withdraw_refusal(chart, level);
-        }
-        Call::Bigs(byte) => {
-            return calls::derive_refusal(chart.big_count, byte);
-        }
-        Call::Superiors(byte) => {
-            return calls::derive_refusal(chart.superior_count, byte);
-        }
-    }
-}
-
-// 21 first, then the call's own number.
-fn number_of(chart: Chart, zones: [Zone; 256], n: u16, call: Call) -> u8
-    ensures { λ r. ⌜ r ≡ liveRefusal chart zones n (callOf call) ⌝ }
-{
-    if kept::bad_live(chart, zones, n) {
-        return 21;
-    }
-    own_number(chart, call)
-}
-
 // ---- steps
-
-fn with_stroke(chart: Chart, s: Stroke) -> Chart
-    requires { ⌜ Accepts chart (addStroke s) ⌝ }
-    ensures { λ r. ⌜ Steps chart (addStroke s) r ⌝ }
-{
-    let mut next = chart;
-    let n = chart.stroke_count as usize;
-    next.strokes[n] = s;
-    next.stroke_count += 1;
-    next
-}
-
-fn with_segment(chart: Chart, t: Triple) -> Chart
-    requires { ⌜ Accepts chart (addSegment t) ⌝ }
-    ensures { λ r. ⌜ Steps chart (addSegment t) r ⌝ }
-{
-    let mut next = chart;
-    let n = chart.segment_count as usize;
-    next.segments[n] = t;
-    next.segment_count += 1;
-    next
-}
-
-fn with_big(chart: Chart, t: Triple) -> Chart
-    requires { ⌜ Accepts chart (addBig t) ⌝ }
-    ensures { λ r. ⌜ Steps chart (addBig t) r ⌝ }
-{
-    let mut next = chart;
-    let n = chart.big_count as usize;
-    next.bigs[n] = t;
-    next.big_count += 1;
-    next
-}
-
-fn with_superior(chart: Chart, t: Triple) -> Chart
-    requires { ⌜ Accepts chart (addSuperior t) ⌝ }
-    ensures { λ r. ⌜ Steps chart (addSuperior t) r ⌝ }
-{
-    let mut next = chart;
-    let n = chart.superior_count as usize;
-    next.superiors[n] = t;
-    next.superior_count += 1;
-    next
-}
-
-// The last superior's last set.
-fn lengthened(chart: Chart, last: u16) -> Chart
-    requires { ⌜ Accepts chart (lengthen last) ⌝ }
-    ensures { λ r. ⌜ Steps chart (lengthen last) r ⌝ }
-{
-    let mut next = chart;
-    let n = (chart.superior_count - 1) as usize;
-    next.superiors[n].last = last;
-    next
-}
 
 // The last record of a level dropped.
 fn shortened(chart: Chart, level: u8) -> Chart
@@ -240,63 +98,11 @@ fn triples_of(classes: [Class; 256], n: u16) -> [Triple; 256]
     triples
 }
 
-fn with_bigs(chart: Chart, byte: u8) -> Chart
-    requires { ⌜ Accepts chart (deriveBigs byte) ⌝ }
-    ensures { λ r. ⌜ Steps chart (deriveBigs byte) r ⌝ }
+// The count with one more, up to its stop.
+fn count_up(n: u32) -> u32
+    ensures { λ r. ⌜ r ≡ countUp n ⌝ }
 {
-    let found = classes::classify_big_segments(chart, byte);
-    let rows = found.rows;
-    let triples = triples_of(rows, found.count);
-    let mut next = chart;
-    next.bigs = triples;
-    next.big_count = found.count;
-    next
-}
-
-fn with_superiors(chart: Chart, byte: u8) -> Chart
-    requires { ⌜ Accepts chart (deriveSuperiors byte) ⌝ }
-    ensures { λ r. ⌜ Steps chart (deriveSuperiors byte) r ⌝ }
-{
-    let found = classes::classify_sup_segments(chart, byte);
-    let rows = found.rows;
-    let triples = triples_of(rows, found.count);
-    let mut next = chart;
-    next.superiors = triples;
-    next.superior_count = found.count;
-    next
-}
-
-// What an accepted call makes of the records.
-fn stepped(chart: Chart, call: Call) -> Chart
-    requires { ⌜ Accepts chart (callOf call) ⌝ }
-    ensures { λ r. ⌜ Steps chart (callOf call) r ⌝ }
-{
-    match call {
-        Call::Stroke(s) => {
-            return with_stroke(chart, s);
-        }
-        Call::Segment(t) => {
-            return with_segment(chart, t);
-        }
-        Call::Big(t) => {
-            return with_big(chart, t);
-        }
-        Call::Superior(t) => {
-            return with_superior(chart, t);
-        }
-        Call::Lengthen(last) => {
-            return lengthened(chart, last);
-        }
-        Call::Withdraw(level) => {
-            return shortened(chart, level);
-        }
-        Call::Bigs(byte) => {
-            return with_bigs(chart, byte);
-        }
-        Call::Superiors(byte) => {
-            return with_superiors(chart, byte);
-        }
-    }
+    if n < 4294967295 { n + 1 } else { 4294967295 }
 }
 
 // ---- the calls
@@ -307,99 +113,270 @@ pub struct Answered {
     pub number: u8,
 }
 
-// The count with one more, up to its stop.
-fn count_up(n: u32) -> u32
-    ensures { λ r. ⌜ r ≡ countUp n ⌝ }
-{
-    if n < 4294967295 { n + 1 } else { 4294967295 }
-}
-
-// The answer of an accepted call whose new records these are: the zones afresh, and one more in the count.
-fn renewed(chart: Chart, count: u32) -> Answered
-    requires { ⌜ (badChart chart ≡ false) × (length (overlapZones (levelsOf chart)) ≤ 256) ⌝ }
-    ensures { λ r. ⌜ Renewed chart count (r .number) (r .chart) ⌝ }
-{
-    let found = zones::detect_bigseg_zhongshus_by_overlap(chart);
-    let rows = found.rows;
-    let next = Live {
-        chart,
-        zones: rows,
-        zone_count: found.count,
-        count: count_up(count),
-    };
-    Answered {
-        chart: next,
-        number: 0,
-    }
-}
-
-// A call on a live chart.
-fn answer(b: Live, call: Call) -> Answered
-    ensures { λ r. ⌜ Did b (callOf call) (r .number) (r .chart) ⌝ }
-{
-    let chart = b.chart;
-    let zones = b.zones;
-    let number = number_of(chart, zones, b.zone_count, call);
-    if number != 0 {
-        return Answered { chart: b, number };
-    }
-    renewed(stepped(chart, call), b.count)
-}
-
 impl Live {
+    // 21 of a call.
+    fn bad(self) -> bool
+        ensures { λ r. ⌜ r ≡ badLive (dataOf self) ⌝ }
+    {
+        let chart = self.chart;
+        let zones = self.zones;
+        kept::bad_live(chart, zones, self.zone_count)
+    }
+
+    // The live chart with new records: the zones afresh, one more in the count, and all else as it was.
+    fn renewed(mut self, chart: Chart) -> Live
+        ensures { λ r. ⌜ Renews self chart r ⌝ }
+    {
+        let found = zones::detect_bigseg_zhongshus_by_overlap(chart);
+        let rows = found.rows;
+        self.chart = chart;
+        self.zones = rows;
+        self.zone_count = found.count;
+        self.count = count_up(self.count);
+        self
+    }
+
     // Adds a stroke: 21, then 3, 2, 1, 4, 14.
     pub fn add_stroke(mut self, s: Stroke) -> Answered
         ensures { λ r. ⌜ Did self (addStroke s) (r .number) (r .chart) ⌝ }
     {
-        answer(self, Call::Stroke(s))
+        if self.bad() {
+            return Answered {
+                chart: self,
+                number: 21,
+            };
+        }
+        let mut chart = self.chart;
+        let number = calls::stroke_refusal(chart, s);
+        if number != 0 {
+            return Answered {
+                chart: self,
+                number,
+            };
+        }
+        let n = chart.stroke_count as usize;
+        chart.strokes[n] = s;
+        chart.stroke_count += 1;
+        self = self.renewed(chart);
+        Answered {
+            chart: self,
+            number: 0,
+        }
     }
 
     // Adds a segment: 21, then 3, 2, 4, 5.
     pub fn add_segment(mut self, t: Triple) -> Answered
         ensures { λ r. ⌜ Did self (addSegment t) (r .number) (r .chart) ⌝ }
     {
-        answer(self, Call::Segment(t))
+        if self.bad() {
+            return Answered {
+                chart: self,
+                number: 21,
+            };
+        }
+        let mut chart = self.chart;
+        let level = chart.segments;
+        let number = calls::triple_refusal(level, chart.segment_count, chart.stroke_count, t);
+        if number != 0 {
+            return Answered {
+                chart: self,
+                number,
+            };
+        }
+        let n = chart.segment_count as usize;
+        chart.segments[n] = t;
+        chart.segment_count += 1;
+        self = self.renewed(chart);
+        Answered {
+            chart: self,
+            number: 0,
+        }
     }
 
     // Adds a big segment: 21, then 3, 2, 4, 5.
     pub fn add_big(mut self, t: Triple) -> Answered
         ensures { λ r. ⌜ Did self (addBig t) (r .number) (r .chart) ⌝ }
     {
-        answer(self, Call::Big(t))
+        if self.bad() {
+            return Answered {
+                chart: self,
+                number: 21,
+            };
+        }
+        let mut chart = self.chart;
+        let level = chart.bigs;
+        let number = calls::triple_refusal(level, chart.big_count, chart.segment_count, t);
+        if number != 0 {
+            return Answered {
+                chart: self,
+                number,
+            };
+        }
+        let n = chart.big_count as usize;
+        chart.bigs[n] = t;
+        chart.big_count += 1;
+        self = self.renewed(chart);
+        Answered {
+            chart: self,
+            number: 0,
+        }
     }
 
     // Adds a superior: 21, then 3, 2, 4, 5.
     pub fn add_superior(mut self, t: Triple) -> Answered
         ensures { λ r. ⌜ Did self (addSuperior t) (r .number) (r .chart) ⌝ }
     {
-        answer(self, Call::Superior(t))
+        if self.bad() {
+            return Answered {
+                chart: self,
+                number: 21,
+            };
+        }
+        let mut chart = self.chart;
+        let level = chart.superiors;
+        let number = calls::triple_refusal(level, chart.superior_count, chart.big_count, t);
+        if number != 0 {
+            return Answered {
+                chart: self,
+                number,
+            };
+        }
+        let n = chart.superior_count as usize;
+        chart.superiors[n] = t;
+        chart.superior_count += 1;
+        self = self.renewed(chart);
+        Answered {
+            chart: self,
+            number: 0,
+        }
     }
 
     // Sets the last superior's last: 21, then 7, 4, 5.
     pub fn lengthen(mut self, last: u16) -> Answered
         ensures { λ r. ⌜ Did self (lengthen last) (r .number) (r .chart) ⌝ }
     {
-        answer(self, Call::Lengthen(last))
+        if self.bad() {
+            return Answered {
+                chart: self,
+                number: 21,
+            };
+        }
+        let mut chart = self.chart;
+        let level = chart.superiors;
+        let number = calls::lengthen_refusal(level, chart.superior_count, chart.big_count, last);
+        if number != 0 {
+            return Answered {
+                chart: self,
+                number,
+            };
+        }
+        let n = (chart.superior_count - 1) as usize;
+        chart.superiors[n].last = last;
+        self = self.renewed(chart);
+        Answered {
+            chart: self,
+            number: 0,
+        }
     }
 
     // Drops the last record of a level, 0 strokes to 3 superiors: 21, then 2, 7, 6.
     pub fn withdraw(mut self, level: u8) -> Answered
         ensures { λ r. ⌜ Did self (withdraw level) (r .number) (r .chart) ⌝ }
     {
-        answer(self, Call::Withdraw(level))
+        if self.bad() {
+            return Answered {
+                chart: self,
+                number: 21,
+            };
+        }
+        let chart = self.chart;
+        let number = calls::withdraw_refusal(chart, level);
+        if number != 0 {
+            return Answered {
+                chart: self,
+                number,
+            };
+        }
+        self = self.renewed(shortened(chart, level));
+        Answered {
+            chart: self,
+            number: 0,
+        }
     }
 
     // Appends the classes of the segments to the bigs, while there is none: 21, then 2, 6.
     pub fn derive_bigs(mut self, byte: u8) -> Answered
         ensures { λ r. ⌜ Did self (deriveBigs byte) (r .number) (r .chart) ⌝ }
     {
-        answer(self, Call::Bigs(byte))
+        if self.bad() {
+            return Answered {
+                chart: self,
+                number: 21,
+            };
+        }
+        let mut chart = self.chart;
+        let number = calls::derive_refusal(chart.big_count, byte);
+        if number != 0 {
+            return Answered {
+                chart: self,
+                number,
+            };
+        }
+        let found = classes::classify_big_segments(chart, byte);
+        let rows = found.rows;
+        let triples = triples_of(rows, found.count);
+        chart.bigs = triples;
+        chart.big_count = found.count;
+        self = self.renewed(chart);
+        Answered {
+            chart: self,
+            number: 0,
+        }
     }
 
     // Appends the classes of the bigs to the superiors, while there is none: 21, then 2, 6.
     pub fn derive_superiors(mut self, byte: u8) -> Answered
         ensures { λ r. ⌜ Did self (deriveSuperiors byte) (r .number) (r .chart) ⌝ }
     {
-        answer(self, Call::Superiors(byte))
+        if self.bad() {
+            return Answered {
+                chart: self,
+                number: 21,
+            };
+        }
+        let mut chart = self.chart;
+        let number = calls::derive_refusal(chart.superior_count, byte);
+        if number != 0 {
+            return Answered {
+                chart: self,
+                number,
+            };
+        }
+        let found = classes::classify_sup_segments(chart, byte);
+        let rows = found.rows;
+        let triples = triples_of(rows, found.count);
+        chart.superiors = triples;
+        chart.superior_count = found.count;
+        self = self.renewed(chart);
+        Answered {
+            chart: self,
+            number: 0,
+        }
+    }
+
+    // Any of these calls.
+    pub fn call(mut self, call: Call) -> Answered
+        ensures { λ r. ⌜ Did self (callOf call) (r .number) (r .chart) ⌝ }
+    {
+        match call {
+            Call::Stroke(s) => self.add_stroke(s),
+            Call::Segment(t) => self.add_segment(t),
+            Call::Big(t) => self.add_big(t),
+            Call::Superior(t) => self.add_superior(t),
+            Call::Lengthen(last) => self.lengthen(last),
+            Call::Withdraw(level) => self.withdraw(level),
+            Call::DeriveBigs(byte) => self.derive_bigs(byte),
+            Call::DeriveSuperiors(byte) => self.derive_superiors(byte),
+        }
     }
 }
