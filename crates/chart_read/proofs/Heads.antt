@@ -8,20 +8,15 @@ use mathlib.Core.Option.{some}
 use lib.ListN.{length, getD, take, drop, length-drop}
 use lib.Dec.{ltb}
 use borrow.Author.Tests.{le-ltb, ltb-true, ltb-false}
-use Rattle.price.specs.Bytes.{ofBytes, readBits}
 use Rattle.rules.specs.Refusals.{refuse}
 use Rattle.rules.specs.Answer.{Answer, refused}
-use Rattle.rules.specs.File.{Kind, width, kindOf, number, Record, readRecord}
+use Rattle.rules.specs.File.{Kind, width, kindOf, Record, readRecord}
 use Rattle.laws.proofs.FileSteps.{readBehind, record-at, behind-cut, behind-full}
 use Rattle.laws.proofs.FileCode.{part}
 use Rattle.chart_read.specs.declared.Mark.{Mark}
 use Rattle.chart_read.specs.declared.MarkRead.{MarkRead}
 use Rattle.chart_read.specs.Heads.{kindBy, markedBy, checked}
 use Rattle.chart_read.specs.declared.MarkRead.the-variants as read
-
-pub part-bits : (s : List ℕ) (i : ℕ) → readBits (ofBytes (take 8 (take (length s - i) (drop i s)))) ≡ readBits (number i 8 s)
-unfolding number
-part-bits s i = rw (part s i)
 
 -- enough bytes behind the mark
 pub head-long : (s : List ℕ) (w k : ℕ) → w ≡ k → ltb (length s - 2) w ≡ false → k ≤ length (take (length s - 2) (drop 2 s))

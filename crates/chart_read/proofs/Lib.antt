@@ -1,5 +1,5 @@
-pub mod Fields
+pub mod RecordKinds
 pub mod Heads
 pub mod Scans
 pub mod Fills
-pub mod Calls
+pub mod ReadCall

@@ -2,14 +2,13 @@
 use chart::Chart;
 use chart::Stroke;
 use chart::Triple;
-use price::PriceRead;
 ghost use mathlib.Core.Path.{_≡_};
-ghost use mathlib.Core.Bool.{true};
-ghost use Prim.Native.Nat.{_+_, _*_, _≤_};
+ghost use mathlib.Core.Bool.{true, not, _||_};
+ghost use Prim.Native.Nat.{_≤_};
 ghost use lib.ListN.{length};
+ghost use Rattle.price.specs.Price.{isPrice};
 ghost use Rattle.rules.specs.Records.{Quotes, levelsOf};
-ghost use Rattle.rules.specs.Refusals.{aboveOne};
-ghost use Rattle.rules.specs.File.{ST, BR, tripleIn, kindOf, width, nothing, readRecord, readFile, readCall, slicesAfter};
+ghost use Rattle.rules.specs.File.{ST, BR, kindOf, width, nothing, readRecord, readFile, readCall, slicesAfter};
 ghost use Rattle.chart_read.specs.Loaded.{loaded};
 ghost use Rattle.chart_read.specs.Heads.{levelKind, kindBy, markedBy, answerOf, checked, fullBy, countBars, counted, isGiven};
 
@@ -92,13 +91,6 @@ fn no_chart() -> Chart
     }
 }
 
-// Two bytes, the lower first.
-fn two_of(a: u8, b: u8) -> u16
-    ensures { λ r. ⌜ r ≡ a + 256 * b ⌝ }
-{
-    a as u16 + 256 * (b as u16)
-}
-
 // The kind that two bytes mark.
 fn mark_of(a: u8, b: u8) -> MarkRead
     ensures { λ r. ⌜ markedBy r ≡ kindOf a b ⌝ }
@@ -159,85 +151,65 @@ fn is_full(counts: Counts, m: Mark) -> bool
     }
 }
 
-// A direction is 0 or 1.
-fn wrong_direction(d: u8) -> bool
-    ensures { λ r. ⌜ r ≡ aboveOne d ⌝ }
+// 1 of a record: a price that isn't one.
+fn wrong_prices(a: f64, b: f64) -> bool
+    ensures { λ r. ⌜ r ≡ (not (isPrice a) || not (isPrice b)) ⌝ }
 {
-    1 < d
-}
-
-// The triple in the bytes behind a mark: its direction, first and last. A stroke begins so too, with its bars.
-fn triple_at(s: &[u8]) -> Triple
-    requires { ⌜ 5 ≤ length (now s) ⌝ }
-    ensures { λ r. ⌜ r ≡ tripleIn (now (s .entry)) ⌝ }
-{
-    Triple {
-        direction: s[0],
-        first: two_of(s[1], s[2]),
-        last: two_of(s[3], s[4]),
+    if price::is_price(a) {
+        return !price::is_price(b);
     }
+    true
 }
 
-// The triple of a level, where its direction is one.
-fn triple_in(s: &[u8], l: Level) -> Head
+// The triple of a level in the bytes behind a mark, where its direction is one.
+fn checked_triple(s: &[u8], l: Level) -> Head
     requires { ⌜ 5 ≤ length (now s) ⌝ }
     ensures { λ r. ⌜ answerOf r ≡ checked (levelKind l) (now (s .entry)) ⌝ }
 {
-    let triple = triple_at(s);
-    if wrong_direction(triple.direction) {
+    let triple = fields::triple_in(s);
+    if 1 < triple.direction {
         return Head::Refused(2);
     }
     Head::Triple(l, triple)
 }
 
-// The stroke, where its direction and its prices are. What is no price never becomes an f64.
-fn stroke_in(s: &[u8]) -> Head
+// The stroke, where its direction and its prices are.
+fn checked_stroke(s: &[u8]) -> Head
     requires { ⌜ 21 ≤ length (now s) ⌝ }
     ensures { λ r. ⌜ answerOf r ≡ checked ST (now (s .entry)) ⌝ }
 {
-    let begun = triple_at(s);
-    if wrong_direction(begun.direction) {
+    let stroke = fields::stroke_in(s);
+    if 1 < stroke.direction {
         return Head::Refused(2);
     }
-    let PriceRead::Price(start_price) = price::get_price(&s[5..]) else {
+    if wrong_prices(stroke.start_price, stroke.end_price) {
         return Head::Refused(1);
-    };
-    let PriceRead::Price(end_price) = price::get_price(&s[13..]) else {
-        return Head::Refused(1);
-    };
-    let stroke = Stroke {
-        direction: begun.direction,
-        start_bar: begun.first,
-        end_bar: begun.last,
-        start_price: start_price,
-        end_price: end_price,
-    };
+    }
     Head::Stroke(stroke)
 }
 
 // The bar: its high, then its low.
-fn bar_in(s: &[u8]) -> Head
+fn checked_bar(s: &[u8]) -> Head
     requires { ⌜ 16 ≤ length (now s) ⌝ }
     ensures { λ r. ⌜ answerOf r ≡ checked BR (now (s .entry)) ⌝ }
 {
-    let PriceRead::Price(high) = price::get_price(s) else {
+    let high = fields::price_at(s, 0);
+    let low = fields::price_at(s, 8);
+    if wrong_prices(high, low) {
         return Head::Refused(1);
-    };
-    let PriceRead::Price(low) = price::get_price(&s[8..]) else {
-        return Head::Refused(1);
-    };
+    }
     Head::Bar(high, low)
 }
 
 // The record of a kind.
-fn fields_in(s: &[u8], m: Mark) -> Head
+fn checked_record(s: &[u8], m: Mark) -> Head
     requires { ⌜ width (kindBy m) ≤ length (now s) ⌝ }
     ensures { λ r. ⌜ answerOf r ≡ checked (kindBy m) (now (s .entry)) ⌝ }
 {
     match m {
-        Mark::Stroke => stroke_in(s),
-        Mark::Triple(l) => triple_in(s, l),
-        Mark::Bar => bar_in(s),
+        Mark::Stroke => checked_stroke(s),
+        Mark::Triple(l) => checked_triple(s, l),
+        Mark::Bar => checked_bar(s),
     }
 }
 
@@ -259,7 +231,7 @@ fn head_of(s: &[u8], counts: Counts) -> Head
     if full {
         return Head::Refused(3);
     }
-    fields_in(&s[2..], m)
+    checked_record(&s[2..], m)
 }
 
 // A refusal holds no chart.

@@ -5,11 +5,10 @@ use chart::Triple;
 ghost use mathlib.Core.Path.{_≡_};
 ghost use mathlib.Core.Bool.{true, false};
 ghost use mathlib.Core.List.{map};
-ghost use Prim.Native.Nat.{_+_, _*_, _/_, _%_, _≤_};
+ghost use Prim.Native.Nat.{_+_, _*_, _≤_};
 ghost use lib.ListN.{length, take};
 ghost use lib.Dec.{ltb};
 ghost use Rattle.price.specs.Price.{Price, allPrices};
-ghost use Rattle.price.specs.Bytes.{priceBytes};
 ghost use Rattle.rules.specs.Answer.{answered};
 ghost use Rattle.rules.specs.Lists.{any, each};
 ghost use Rattle.rules.specs.Records.{Quotes, levelsOf};
@@ -19,42 +18,21 @@ ghost use Rattle.chart_write.specs.Put.{putAt, marked, levelBytes};
 
 // ---- one record
 
-// The lower byte of a number, and the higher one.
-fn low_byte(n: u16) -> u8
-    ensures { λ r. ⌜ r ≡ n % 256 ⌝ }
-{
-    (n % 256) as u8
-}
-
-fn high_byte(n: u16) -> u8
-    ensures { λ r. ⌜ r ≡ n / 256 % 256 ⌝ }
-{
-    (n / 256) as u8
-}
-
-// A price's eight bytes.
-fn price_bytes(x: f64) -> [u8; 8]
-    requires { ⌜ Price x ⌝ }
-    ensures { λ r. ⌜ r ≡ priceBytes x ⌝ }
-{
-    price::bytes_of(price::bits_of_price(x))
-}
-
 // A stroke's record.
 fn stroke_bytes(s: Stroke) -> [u8; 23]
     requires { ⌜ badPrices s ≡ false ⌝ }
     ensures { λ r. ⌜ r ≡ recordBytes (stroke s) ⌝ }
 {
-    let a = price_bytes(s.start_price);
-    let b = price_bytes(s.end_price);
+    let a = fields::price_bytes(s.start_price);
+    let b = fields::price_bytes(s.end_price);
     [
         b'S',
         b'T',
         s.direction,
-        low_byte(s.start_bar),
-        high_byte(s.start_bar),
-        low_byte(s.end_bar),
-        high_byte(s.end_bar),
+        fields::low_byte(s.start_bar),
+        fields::high_byte(s.start_bar),
+        fields::low_byte(s.end_bar),
+        fields::high_byte(s.end_bar),
         a[0],
         a[1],
         a[2],
@@ -82,10 +60,10 @@ fn triple_bytes(a: u8, b: u8, t: Triple) -> [u8; 7]
         a,
         b,
         t.direction,
-        low_byte(t.first),
-        high_byte(t.first),
-        low_byte(t.last),
-        high_byte(t.last),
+        fields::low_byte(t.first),
+        fields::high_byte(t.first),
+        fields::low_byte(t.last),
+        fields::high_byte(t.last),
     ]
 }
 
@@ -94,8 +72,8 @@ fn bar_bytes(high: f64, low: f64) -> [u8; 18]
     requires { ⌜ Price high × Price low ⌝ }
     ensures { λ r. ⌜ r ≡ recordBytes (bar high low) ⌝ }
 {
-    let a = price_bytes(high);
-    let b = price_bytes(low);
+    let a = fields::price_bytes(high);
+    let b = fields::price_bytes(low);
     [
         b'B',
         b'R',

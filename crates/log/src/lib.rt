@@ -3,10 +3,9 @@ use chart::Stroke;
 use chart::Triple;
 ghost use mathlib.Core.Path.{_≡_};
 ghost use mathlib.Core.Option.{none, some};
-ghost use Prim.Native.Nat.{_+_, _*_, _≤_, _<_};
+ghost use Prim.Native.Nat.{_≤_, _<_};
 ghost use lib.ListN.{length};
-ghost use lib.Ieee.{binary64, ofBits};
-ghost use Rattle.rules.specs.File.{price, strokeIn, tripleIn};
+ghost use Rattle.rules.specs.File.{price};
 ghost use Rattle.log.specs.Log.{bar, formOf, spelled};
 ghost use Rattle.log.specs.Entries.{entryOf, placeOf, badAt, widthBy, entryBy, countedBy, Told};
 
@@ -37,60 +36,12 @@ pub enum Place {
     Nowhere,
 }
 
-// The value with these bits. The library makes no NaN of its bits, so a quotient makes it.
-fn any_price(n: u64) -> f64
-    ensures { λ r. ⌜ r ≡ ofBits binary64 n ⌝ }
-{
-    if 0x7FF0_0000_0000_0000 < n % 0x8000_0000_0000_0000 {
-        return 0.0 / 0.0;
-    }
-    f64::from_bits(n)
-}
-
-// Two bytes, the lower first.
-fn two_of(a: u8, b: u8) -> u16
-    ensures { λ r. ⌜ r ≡ a + 256 * b ⌝ }
-{
-    a as u16 + 256 * (b as u16)
-}
-
-// The triple in the fields: its direction, first and last. A stroke begins so too, with its bars.
-fn triple_in(s: &[u8]) -> Triple
-    requires { ⌜ 5 ≤ length (now s) ⌝ }
-    ensures { λ r. ⌜ r ≡ tripleIn (now (s .entry)) ⌝ }
-{
-    Triple {
-        direction: s[0],
-        first: two_of(s[1], s[2]),
-        last: two_of(s[3], s[4]),
-    }
-}
-
-// The stroke in the fields, whatever its prices are.
-fn stroke_in(s: &[u8]) -> Stroke
-    requires { ⌜ 21 ≤ length (now s) ⌝ }
-    ensures { λ r. ⌜ r ≡ strokeIn (now (s .entry)) ⌝ }
-{
-    let begun = triple_in(s);
-    let start = price::number_of(&s[5..]);
-    let end = price::number_of(&s[13..]);
-    Stroke {
-        direction: begun.direction,
-        start_bar: begun.first,
-        end_bar: begun.last,
-        start_price: any_price(start),
-        end_price: any_price(end),
-    }
-}
-
 // The bar in the fields, whatever its prices are.
 fn bar_in(s: &[u8]) -> Logged
     requires { ⌜ 16 ≤ length (now s) ⌝ }
     ensures { λ r. ⌜ entryOf r ≡ some (bar (price 0 (now (s .entry))) (price 8 (now (s .entry)))) ⌝ }
 {
-    let high = price::number_of(s);
-    let low = price::number_of(&s[8..]);
-    Logged::Bar(any_price(high), any_price(low))
+    Logged::Bar(fields::price_at(s, 0), fields::price_at(s, 8))
 }
 
 // How many bytes of fields a letter has behind it, 0 where it is none.
@@ -115,11 +66,11 @@ fn entry_in(letter: u8, s: &[u8]) -> Logged
     ensures { λ r. ⌜ entryOf r ≡ entryBy (formOf letter) (now (s .entry)) ⌝ }
 {
     match letter {
-        b'S' => Logged::Stroke(stroke_in(s)),
-        b'G' => Logged::Segment(triple_in(s)),
-        b'B' => Logged::Big(triple_in(s)),
-        b'U' => Logged::Superior(triple_in(s)),
-        b'L' => Logged::Lengthen(two_of(s[0], s[1])),
+        b'S' => Logged::Stroke(fields::stroke_in(s)),
+        b'G' => Logged::Segment(fields::triple_in(s)),
+        b'B' => Logged::Big(fields::triple_in(s)),
+        b'U' => Logged::Superior(fields::triple_in(s)),
+        b'L' => Logged::Lengthen(fields::two_at(s, 0)),
         b'W' => Logged::Withdraw(s[0]),
         b'D' => Logged::Bigs(s[0]),
         b'E' => Logged::Superiors(s[0]),

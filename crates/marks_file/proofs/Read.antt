@@ -17,7 +17,7 @@ use Rattle.laws.proofs.Tests.{or-l, or-r}
 use Rattle.laws.proofs.FileSteps.{refused-given}
 use Rattle.laws.proofs.FileGood.{read-sound, chart-sound}
 use Rattle.chart_read.specs.Loaded.{loaded}
-use Rattle.chart_read.proofs.Calls.{file-above}
+use Rattle.chart_read.proofs.ReadCall.{file-above}
 
 -- slices of one length are not refused with 8
 pub lent-read : (q : Quotes) (bytes : List ℕ) → length (q .highs) ≡ 2048 → length (q .lows) ≡ 2048 → readCall q bytes ≡ readFile 2048 bytes

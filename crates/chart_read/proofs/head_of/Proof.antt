@@ -56,17 +56,17 @@ returns-4 c =
     head-full _ _ (test .if1 .left) _ (called .mark-of .ensures) _ (mark .m .given .1) _ (wide .width-of .ensures) (c .before .if2 .left)
     (sym (full .is-full .ensures) ∙ c .if3 .taken)
 
-sub-fields-in : tie.Need-sub-fields-in
-sub-fields-in c = search needs
+sub-checked-record : tie.Need-sub-checked-record
+sub-checked-record c = search needs
 
-part-fields-in-start : tie.Need-part-fields-in-start
-part-fields-in-start c = search needs
+part-checked-record-start : tie.Need-part-checked-record-start
+part-checked-record-start c = search needs
 
-part-fields-in-end : tie.Need-part-fields-in-end
-part-fields-in-end c = search needs
+part-checked-record-end : tie.Need-part-checked-record-end
+part-checked-record-end c = search needs
 
-fields-in-requires : tie.Need-fields-in-requires
-fields-in-requires c κs =
+checked-record-requires : tie.Need-checked-record-requires
+checked-record-requires c κs =
     let long = c .before .before in
     let wide = long .before .before in
     let known = wide .before .before .before .before .before .before .before .before in
@@ -82,7 +82,7 @@ returns-5 c =
     let test = called .before .before .before in
     head-fields _ _ (test .if1 .left) _ (called .mark-of .ensures) _ (mark .m .given .1) _ (wide .width-of .ensures) _ (room .before .if2 .left)
     (sym (full .is-full .ensures) ∙ room .if3 .left)
-    (c .fields-in .ensures)
+    (c .checked-record .ensures)
 
 pub head-of-spec : {M : Type 1} → statement M
 head-of-spec =
@@ -100,8 +100,8 @@ head-of-spec =
     is-full-requires
     returns-3
     returns-4
-    sub-fields-in
-    part-fields-in-start
-    part-fields-in-end
-    fields-in-requires
+    sub-checked-record
+    part-checked-record-start
+    part-checked-record-end
+    checked-record-requires
     returns-5)

@@ -1,5 +1,5 @@
 -- `chart_read::mark_of` meets its contract: each way through the tests is a law. Assumes nothing.
-use Rattle.chart_read.proofs.Fields.{mark-bar, mark-big, mark-no-b, mark-stroke, mark-segment, mark-superior, mark-no-s, mark-none}
+use Rattle.chart_read.proofs.RecordKinds.{mark-bar, mark-big, mark-no-b, mark-stroke, mark-segment, mark-superior, mark-no-s, mark-none}
 use Rattle.chart_read.proofs.mark_of.Statement.{statement}
 use Rattle.chart_read.proofs.mark_of.Tie as tie
 

@@ -1,7 +1,7 @@
 -- `chart_read::read_chart` meets its contract: 8, then the scan, then the bars. Assumes nothing.
 use borrow.Author.Needs.{needs}
 use Rattle.rules.specs.Records.{Quotes}
-use Rattle.chart_read.proofs.Calls.{answer-unequal, answer-refused, file-given, answer-given}
+use Rattle.chart_read.proofs.ReadCall.{answer-unequal, answer-refused, file-given, answer-given}
 use Rattle.chart_read.proofs.read_chart.Statement.{statement}
 use Rattle.chart_read.proofs.read_chart.Tie as tie
 

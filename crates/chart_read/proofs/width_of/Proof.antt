@@ -1,7 +1,7 @@
 -- `chart_read::width_of` meets its contract. Assumes nothing.
 use borrow.Author.Needs.{needs}
 use Rattle.rules.specs.File.{width}
-use Rattle.chart_read.proofs.Fields.{level-width}
+use Rattle.chart_read.proofs.RecordKinds.{level-width}
 use Rattle.chart_read.proofs.width_of.Statement.{statement}
 use Rattle.chart_read.proofs.width_of.Tie as tie
 

@@ -8,7 +8,7 @@ use Rattle.chart.specs.declared.Stroke.{Stroke}
 use Rattle.chart.specs.declared.Triple.{Triple}
 use Rattle.rules.specs.Text.{ascii}
 use Rattle.rules.specs.Machine.{addStroke, addSegment, addBig, addSuperior, lengthen, withdraw, deriveBigs, deriveSuperiors}
-use Rattle.laws.proofs.FileCode.{one-at, two-at}
+use Rattle.laws.proofs.FileCode.{one-at}
 use Rattle.log.specs.Log.{call, forms, formOf}
 use Rattle.log.specs.Entries.{widthBy, entryBy}
 use Rattle.log.proofs.Forms.{wide-as, entry-as, no-form, no-entry}
@@ -31,28 +31,21 @@ triple-in-requires-3 : tie.Need-triple-in-requires-3
 unfolding widthBy formOf forms ascii
 triple-in-requires-3 c κs = wide-as _ 85 (c .match .keys4) _ (c .before .before .pre)
 
-shared-slice-read-two-of : tie.Need-shared-slice-read-two-of
+two-at-requires : tie.Need-two-at-requires
 unfolding widthBy formOf forms ascii
-shared-slice-read-two-of c = omega (arith, wide-as _ 76 (c .before .match .keys5) _ (c .before .before .before .pre))
+two-at-requires c κs = wide-as _ 76 (c .match .keys5) _ (c .before .before .pre)
 
-shared-slice-read-two-of-2 : tie.Need-shared-slice-read-two-of-2
+shared-slice-read-t10 : tie.Need-shared-slice-read-t10
 unfolding widthBy formOf forms ascii
-shared-slice-read-two-of-2 c = omega (arith, wide-as _ 76 (c .before .before .match .keys5) _ (c .before .before .before .before .pre))
+shared-slice-read-t10 c = wide-as _ 87 (c .before .match .keys6) _ (c .before .before .before .pre)
 
-two-of-requires : tie.Need-two-of-requires
-two-of-requires c κs = search needs
+shared-slice-read-t12 : tie.Need-shared-slice-read-t12
+unfolding widthBy formOf forms ascii
+shared-slice-read-t12 c = wide-as _ 68 (c .before .match .keys7) _ (c .before .before .before .pre)
 
 shared-slice-read-t14 : tie.Need-shared-slice-read-t14
 unfolding widthBy formOf forms ascii
-shared-slice-read-t14 c = wide-as _ 87 (c .before .match .keys6) _ (c .before .before .before .pre)
-
-shared-slice-read-t16 : tie.Need-shared-slice-read-t16
-unfolding widthBy formOf forms ascii
-shared-slice-read-t16 c = wide-as _ 68 (c .before .match .keys7) _ (c .before .before .before .pre)
-
-shared-slice-read-t18 : tie.Need-shared-slice-read-t18
-unfolding widthBy formOf forms ascii
-shared-slice-read-t18 c = wide-as _ 69 (c .before .match .keys8) _ (c .before .before .before .pre)
+shared-slice-read-t14 c = wide-as _ 69 (c .before .match .keys8) _ (c .before .before .before .pre)
 
 bar-in-requires : tie.Need-bar-in-requires
 unfolding widthBy formOf forms ascii
@@ -75,11 +68,8 @@ unfolding entryBy formOf forms ascii
 returns-4 c = ap (λ (t : Triple). some (call (addSuperior t))) (c .triple-in3 .ensures) ∙ entry-as _ 85 (c .before .match .keys4) _
 
 returns-5 : tie.Need-returns-5
-unfolding widthBy entryBy formOf forms ascii
-returns-5 c =
-    let arm = c .before .before .before in
-    let e = arm .match .keys5 in
-    ap (λ (n : ℕ). some (call (lengthen n))) (c .two-of .ensures ∙ sym (two-at _ 0 (wide-as _ 76 e _ (arm .before .before .pre)))) ∙ entry-as _ 76 e _
+unfolding entryBy formOf forms ascii
+returns-5 c = ap (λ (n : ℕ). some (call (lengthen n))) (c .two-at .ensures) ∙ entry-as _ 76 (c .before .match .keys5) _
 
 returns-6 : tie.Need-returns-6
 unfolding widthBy entryBy formOf forms ascii
@@ -120,12 +110,10 @@ entry-in-spec =
     triple-in-requires
     triple-in-requires-2
     triple-in-requires-3
-    shared-slice-read-two-of
-    shared-slice-read-two-of-2
-    two-of-requires
+    two-at-requires
+    shared-slice-read-t10
+    shared-slice-read-t12
     shared-slice-read-t14
-    shared-slice-read-t16
-    shared-slice-read-t18
     bar-in-requires
     returns
     returns-2

@@ -1,11 +1,11 @@
--- `log::any_price` meets its contract. Assumes nothing.
+-- `fields::value_of` meets its contract. Assumes nothing.
 use native.Mathlib.Omega.{arith}
 use mathlib.Core.Path.{sym}
 use lib.Ieee.{div, ofBits}
 use borrow.Author.Needs.{needs}
-use Rattle.log.proofs.Forms.{nan-bits, bits-no-nan}
-use Rattle.log.proofs.any_price.Statement.{statement}
-use Rattle.log.proofs.any_price.Tie as tie
+use Rattle.fields.proofs.NanBits.{nan-bits, bits-no-nan}
+use Rattle.fields.proofs.value_of.Statement.{statement}
+use Rattle.fields.proofs.value_of.Tie as tie
 
 returns : tie.Need-returns
 unfolding div ofBits
@@ -17,5 +17,5 @@ float-from-bits-result c = bits-no-nan (c .before .args .n) (omega arith)
 returns-2 : tie.Need-returns-2
 returns-2 c = search needs
 
-pub any-price-spec : {M : Type 1} → statement M
-any-price-spec = tie.close (tie.spec returns float-from-bits-result returns-2)
+pub value-of-spec : {M : Type 1} → statement M
+value-of-spec = tie.close (tie.spec returns float-from-bits-result returns-2)

@@ -1,7 +1,7 @@
--- `chart_write::price_bytes` meets its contract. Assumes nothing.
+-- `fields::price_bytes` meets its contract. Assumes nothing.
 use borrow.Author.Needs.{needs}
-use Rattle.chart_write.proofs.price_bytes.Statement.{statement}
-use Rattle.chart_write.proofs.price_bytes.Tie as tie
+use Rattle.fields.proofs.price_bytes.Statement.{statement}
+use Rattle.fields.proofs.price_bytes.Tie as tie
 
 bits-of-price-requires : tie.Need-bits-of-price-requires
 bits-of-price-requires c κs = search needs

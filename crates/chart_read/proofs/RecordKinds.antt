@@ -1,0 +1,162 @@
+-- The kind that two bytes mark, and the record of a kind by the tests on its fields. Assumes nothing.
+use Prim.Native.Nat.{ℕ, suc}
+use native.Mathlib.Omega.{arith}
+use mathlib.Core.Path.{_≡_, refl, sym, ap, _∙_}
+use mathlib.Core.Bool.{Bool, true, false, not, _&&_, _||_}
+use mathlib.Core.List.{List, [], _∷_}
+use mathlib.Core.Option.{none, some}
+use lib.ListN.{getD}
+use lib.Dec.{eqb}
+use lib.Ieee.{Float}
+use borrow.Author.Tests.{ne-eqb}
+use Rattle.price.specs.Price.{isPrice}
+use Rattle.chart.specs.declared.Stroke.{Stroke}
+use Rattle.chart.specs.declared.Triple.{Triple}
+use Rattle.rules.specs.Text.{ascii}
+use Rattle.rules.specs.Refusals.{refuse, aboveOne, badPrices}
+use Rattle.rules.specs.Answer.{refused, given, answered}
+use Rattle.rules.specs.Lists.{find}
+use Rattle.rules.specs.File.{Kind, ST, SG, BG, SU, BR, markOf, width, isMark, kindOf, Record, stroke, segment, big, superior, bar}
+use Rattle.rules.specs.File.{price, strokeIn, tripleIn, recordIn, fieldRefusal}
+use Rattle.chart_read.specs.declared.Level.{Level}
+use Rattle.chart_read.specs.declared.Mark.{Mark}
+use Rattle.chart_read.specs.Heads.{levelKind, kindBy, tripleBy, checked}
+use Rattle.chart_read.specs.declared.Level.the-variants as level
+use Rattle.chart_read.specs.declared.Mark.the-variants as mark
+
+-- ---- the marks
+
+passed : (p : Kind → Bool) (k : Kind) (ks : List Kind) → p k ≡ false → find p (k ∷ ks) ≡ find p ks
+passed p k ks e = rw (find, e)
+
+and-false : (x y : Bool) → y ≡ false → (x && y) ≡ false
+and-false true y e = e
+and-false false y e = refl
+
+module _ (a b : ℕ) where
+  first : (k : Kind) → (a ≡ getD (markOf k) 0 0 → ⊥) → isMark a b k ≡ false
+  unfolding isMark
+  first k h = rw (ne-eqb a (getD (markOf k) 0 0) h)
+
+  second : (k : Kind) → (b ≡ getD (markOf k) 1 0 → ⊥) → isMark a b k ≡ false
+  unfolding isMark
+  second k h = and-false (eqb a (getD (markOf k) 0 0)) (eqb b (getD (markOf k) 1 0)) (ne-eqb b (getD (markOf k) 1 0) h)
+
+  no-kind :
+      isMark a b ST ≡ false → isMark a b SG ≡ false → isMark a b BG ≡ false → isMark a b SU ≡ false → isMark a b BR ≡ false
+      → none ≡ kindOf a b
+  unfolding kindOf
+  no-kind st sg bg su br =
+      sym
+      (passed (isMark a b) ST (SG ∷ BG ∷ SU ∷ BR ∷ []) st
+      ∙ passed (isMark a b) SG (BG ∷ SU ∷ BR ∷ []) sg
+      ∙ passed (isMark a b) BG (SU ∷ BR ∷ []) bg
+      ∙ passed (isMark a b) SU (BR ∷ []) su
+      ∙ passed (isMark a b) BR [] br)
+
+  pub mark-bar : a ≡ 66 → b ≡ 82 → some BR ≡ kindOf a b
+  unfolding kindOf isMark markOf ascii
+  mark-bar p q = rw (p, q)
+
+  pub mark-big : a ≡ 66 → b ≡ 71 → some BG ≡ kindOf a b
+  unfolding kindOf isMark markOf ascii
+  mark-big p q = rw (p, q)
+
+  pub mark-no-b : a ≡ 66 → (b ≡ 82 → ⊥) → (b ≡ 71 → ⊥) → none ≡ kindOf a b
+  unfolding markOf ascii
+  mark-no-b p q r =
+      let s : (a ≡ 83 → ⊥) = λ e. omega arith in
+      no-kind (first ST s) (first SG s) (second BG r) (first SU s) (second BR q)
+
+  pub mark-stroke : a ≡ 83 → b ≡ 84 → some ST ≡ kindOf a b
+  unfolding kindOf isMark markOf ascii
+  mark-stroke p q = rw (p, q)
+
+  pub mark-segment : a ≡ 83 → b ≡ 71 → some SG ≡ kindOf a b
+  unfolding kindOf isMark markOf ascii
+  mark-segment p q = rw (p, q)
+
+  pub mark-superior : a ≡ 83 → b ≡ 85 → some SU ≡ kindOf a b
+  unfolding kindOf isMark markOf ascii
+  mark-superior p q = rw (p, q)
+
+  pub mark-no-s : a ≡ 83 → (b ≡ 84 → ⊥) → (b ≡ 71 → ⊥) → (b ≡ 85 → ⊥) → none ≡ kindOf a b
+  unfolding markOf ascii
+  mark-no-s p q r t =
+      let s : (a ≡ 66 → ⊥) = λ e. omega arith in
+      no-kind (second ST q) (second SG r) (first BG s) (second SU t) (first BR s)
+
+  pub mark-none : (a ≡ 66 → ⊥) → (a ≡ 83 → ⊥) → none ≡ kindOf a b
+  unfolding markOf ascii
+  mark-none p q = no-kind (first ST q) (first SG q) (first BG p) (first SU q) (first BR p)
+
+pub level-width : (m : Mark) (l : Level) → m ≡ mark.Triple l → 5 ≡ width (kindBy m)
+unfolding width
+level-width m l e = go l ∙ ap (λ (k : Mark). width (kindBy k)) (sym e)
+  where
+    go : (l : Level) → 5 ≡ width (levelKind l)
+    go level.Segment = refl
+    go level.Big = refl
+    go level.Superior = refl
+
+-- ---- the record of a kind, by the tests on its fields
+
+module _ (s : List ℕ) (k : Kind) (r : Record) (e : r ≡ recordIn k s) where
+  with-number : (n : ℕ) → fieldRefusal r ≡ suc n → refused (suc n) ≡ checked k s
+  unfolding checked answered
+  with-number n h = rw (← e, h)
+
+  with-none : fieldRefusal r ≡ 0 → given r ≡ checked k s
+  unfolding checked answered
+  with-none h = rw (← e, h)
+
+module _ (s : List ℕ) (t : Stroke) (e : t ≡ strokeIn s) where
+  is-stroke : stroke t ≡ recordIn ST s
+  unfolding recordIn
+  is-stroke = ap stroke e
+
+  pub stroke-direction : aboveOne (t .direction) ≡ true → refused 2 ≡ checked ST s
+  unfolding fieldRefusal refuse
+  stroke-direction h = with-number s ST (stroke t) is-stroke 1 (rw h)
+
+  pub stroke-prices : aboveOne (t .direction) ≡ false → badPrices t ≡ true → refused 1 ≡ checked ST s
+  unfolding fieldRefusal refuse
+  stroke-prices h p = with-number s ST (stroke t) is-stroke 0 (rw (h, p))
+
+  pub stroke-given : aboveOne (t .direction) ≡ false → badPrices t ≡ false → given (stroke t) ≡ checked ST s
+  unfolding fieldRefusal refuse
+  stroke-given h p = with-none s ST (stroke t) is-stroke (rw (h, p))
+
+module _ (s : List ℕ) (t : Triple) (e : t ≡ tripleIn s) where
+  is-triple : (l : Level) → tripleBy l t ≡ recordIn (levelKind l) s
+  unfolding recordIn
+  is-triple level.Segment = ap segment e
+  is-triple level.Big = ap big e
+  is-triple level.Superior = ap superior e
+
+  by-direction : (l : Level) → fieldRefusal (tripleBy l t) ≡ refuse (aboveOne (t .direction)) 2 0
+  unfolding fieldRefusal
+  by-direction level.Segment = refl
+  by-direction level.Big = refl
+  by-direction level.Superior = refl
+
+  pub triple-direction : (l : Level) → aboveOne (t .direction) ≡ true → refused 2 ≡ checked (levelKind l) s
+  unfolding refuse
+  triple-direction l h = with-number s (levelKind l) (tripleBy l t) (is-triple l) 1 (by-direction l ∙ rw h)
+
+  pub triple-given : (l : Level) → aboveOne (t .direction) ≡ false → given (tripleBy l t) ≡ checked (levelKind l) s
+  unfolding refuse
+  triple-given l h = with-none s (levelKind l) (tripleBy l t) (is-triple l) (by-direction l ∙ rw h)
+
+module _ (s : List ℕ) (h l : Float) (e : h ≡ price 0 s) (f : l ≡ price 8 s) where
+  is-bar : bar h l ≡ recordIn BR s
+  unfolding recordIn
+  is-bar = rw (e, f)
+
+  pub bar-prices : (not (isPrice h) || not (isPrice l)) ≡ true → refused 1 ≡ checked BR s
+  unfolding fieldRefusal refuse
+  bar-prices w = with-number s BR (bar h l) is-bar 0 (rw w)
+
+  pub bar-given : (not (isPrice h) || not (isPrice l)) ≡ false → given (bar h l) ≡ checked BR s
+  unfolding fieldRefusal refuse
+  bar-given w = with-none s BR (bar h l) is-bar (rw w)

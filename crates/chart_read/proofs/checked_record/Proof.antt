@@ -1,0 +1,55 @@
+-- `chart_read::checked_record` meets its contract: the mark says which function reads. Assumes nothing.
+use native.Mathlib.Omega.{arith}
+use mathlib.Core.Path.{ap}
+use borrow.Author.Needs.{needs}
+use Rattle.rules.specs.File.{width}
+use Rattle.chart_read.specs.declared.Mark.{Mark}
+use Rattle.chart_read.specs.Heads.{kindBy}
+use Rattle.chart_read.proofs.RecordKinds.{level-width}
+use Rattle.chart_read.proofs.checked_record.Statement.{statement}
+use Rattle.chart_read.proofs.checked_record.Tie as tie
+
+enum-told : tie.Need-enum-told
+enum-told c = search needs
+
+checked-stroke-requires : tie.Need-checked-stroke-requires
+unfolding width
+checked-stroke-requires c κs =
+    omega (arith, ap (λ (k : Mark). width (kindBy k)) (c .enum-told .given .1))
+
+enum-known-m : tie.Need-enum-known-m
+enum-known-m c = search needs
+
+checked-triple-requires : tie.Need-checked-triple-requires
+checked-triple-requires c κs = omega (arith, level-width _ _ (c .before .m .given .1))
+
+enum-told-2 : tie.Need-enum-told-2
+enum-told-2 c = search needs
+
+checked-bar-requires : tie.Need-checked-bar-requires
+unfolding width
+checked-bar-requires c κs =
+    omega (arith, ap (λ (k : Mark). width (kindBy k)) (c .enum-told2 .given .1))
+
+returns : tie.Need-returns
+returns c = rw (c .before .enum-told .given .1) (c .checked-stroke .ensures)
+
+returns-2 : tie.Need-returns-2
+returns-2 c = rw (c .before .before .m .given .1) (c .checked-triple .ensures)
+
+returns-3 : tie.Need-returns-3
+returns-3 c = rw (c .before .enum-told2 .given .1) (c .checked-bar .ensures)
+
+pub checked-record-spec : {M : Type 1} → statement M
+checked-record-spec =
+    tie.close
+    (tie.spec
+    enum-told
+    checked-stroke-requires
+    enum-known-m
+    checked-triple-requires
+    enum-told-2
+    checked-bar-requires
+    returns
+    returns-2
+    returns-3)
