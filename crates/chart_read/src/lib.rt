@@ -59,26 +59,12 @@ struct Counts {
     places: usize,
 }
 
-const NO_STROKE: Stroke = Stroke {
-    direction: 0,
-    start_bar: 0,
-    end_bar: 0,
-    start_price: 0.0,
-    end_price: 0.0,
-};
-
-const NO_TRIPLE: Triple = Triple {
-    direction: 0,
-    first: 0,
-    last: 0,
-};
-
 // A chart with no record.
 fn no_chart() -> Chart
     ensures { λ r. ⌜ (r .«stroke_count» ≡ 0) × (r .«segment_count» ≡ 0) × (r .«big_count» ≡ 0) × (r .«superior_count» ≡ 0) ⌝ }
 {
-    let strokes = [NO_STROKE; 512];
-    let triples = [NO_TRIPLE; 256];
+    let strokes = [chart::NO_STROKE; 512];
+    let triples = [chart::NO_TRIPLE; 256];
     Chart {
         strokes: strokes,
         stroke_count: 0,

@@ -1,6 +1,6 @@
 pub mod Forms
 pub mod Steps
-pub mod Among
+pub mod CallsAndBars
 pub mod Limit
 pub mod Long
 pub mod Facts

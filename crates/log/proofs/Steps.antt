@@ -15,13 +15,13 @@ use lib.Ieee.{Float}
 use borrow.Author.Tests.{le-leb, lt-leb, leb-true}
 use Rattle.rules.specs.Answer.{AnswerBy, refused, given}
 use Rattle.rules.specs.Lists.{andThen}
-use Rattle.rules.specs.Machine.{Call, addStroke, addSegment, addBig, addSuperior, lengthen, withdraw, deriveBigs, deriveSuperiors}
+use Rattle.rules.specs.Machine.{Call, callOf}
 use Rattle.laws.proofs.Tests.{none-some, and-l, and-r}
 use Rattle.laws.proofs.Lists.{All, nil, cons, all-find}
 use Rattle.laws.proofs.FileSteps.{refused-given}
 use Rattle.laws.proofs.FileCode.{part}
-use Rattle.log.specs.declared.Logged.{Logged}
-use Rattle.log.specs.declared.Logged.the-variants as logged
+use Rattle.log.specs.declared.LogEntry.{LogEntry}
+use Rattle.log.specs.declared.LogEntry.the-variants as entry
 use Rattle.log.specs.Log.{Entry, call, bar, Form, forms, formOf, counted, good, formAt, inFront, spelledFrom, spelled}
 use Rattle.log.specs.Entries.{entryOf, badAt, widthBy, entryBy, countedBy, restOf, EntryAt, Told}
 
@@ -94,25 +94,18 @@ form-good at bars letter fields f e = go (formOf letter) refl
 
 -- ---- how many bars there are with an entry
 
-pub with-bar : (bars : ℕ) (l : Logged) (high low : Float) → l ≡ logged.Bar high low → bars + 1 ≡ countedBy bars (entryOf l)
+pub with-bar : (bars : ℕ) (l : LogEntry) (high low : Float) → l ≡ entry.Bar high low → bars + 1 ≡ countedBy bars (entryOf l)
 unfolding countedBy counted
 with-bar bars l high low e = rw e (add-one bars)
 
 -- what is no bar is a call, or bad
 pub no-bar :
-    (l : Logged) → ((high low : Float) → l ≡ logged.Bar high low → ⊥) → ((k : Call) × (entryOf l ≡ some (call k))) ⊎ (entryOf l ≡ none)
-no-bar (logged.Stroke s) h = inl (addStroke s, refl)
-no-bar (logged.Segment t) h = inl (addSegment t, refl)
-no-bar (logged.Big t) h = inl (addBig t, refl)
-no-bar (logged.Superior t) h = inl (addSuperior t, refl)
-no-bar (logged.Lengthen n) h = inl (lengthen n, refl)
-no-bar (logged.Withdraw n) h = inl (withdraw n, refl)
-no-bar (logged.Bigs n) h = inl (deriveBigs n, refl)
-no-bar (logged.Superiors n) h = inl (deriveSuperiors n, refl)
-no-bar (logged.Bar high low) h = absurd (h high low refl)
-no-bar logged.Bad h = inr refl
+    (l : LogEntry) → ((high low : Float) → l ≡ entry.Bar high low → ⊥) → ((k : Call) × (entryOf l ≡ some (call k))) ⊎ (entryOf l ≡ none)
+no-bar (entry.Call k) h = inl (callOf k, refl)
+no-bar (entry.Bar high low) h = absurd (h high low refl)
+no-bar entry.Bad h = inr refl
 
-pub with-call : (bars : ℕ) (l : Logged) → ((high low : Float) → l ≡ logged.Bar high low → ⊥) → bars ≡ countedBy bars (entryOf l)
+pub with-call : (bars : ℕ) (l : LogEntry) → ((high low : Float) → l ≡ entry.Bar high low → ⊥) → bars ≡ countedBy bars (entryOf l)
 unfolding countedBy counted
 with-call bars l h = ⊎-elim (λ k. rw (k .1)) (λ e. rw e) (no-bar l h)
 
@@ -239,18 +232,11 @@ module _ (log : List ℕ) (at bars : ℕ) (es : List Entry) (e : restOf log at b
 
 -- an entry that the code finds good
 pub good-entry :
-    (log : List ℕ) (at bars : ℕ) (l : Logged) (next after : ℕ) → (l ≡ logged.Bad → ⊥) → Told log at bars (entryOf l) next after
+    (log : List ℕ) (at bars : ℕ) (l : LogEntry) (next after : ℕ) → (l ≡ entry.Bad → ⊥) → Told log at bars (entryOf l) next after
     → (e : Entry) × EntryAt log at bars e next after
-good-entry log at bars (logged.Stroke s) next after h t = (call (addStroke s), t)
-good-entry log at bars (logged.Segment s) next after h t = (call (addSegment s), t)
-good-entry log at bars (logged.Big s) next after h t = (call (addBig s), t)
-good-entry log at bars (logged.Superior s) next after h t = (call (addSuperior s), t)
-good-entry log at bars (logged.Lengthen n) next after h t = (call (lengthen n), t)
-good-entry log at bars (logged.Withdraw n) next after h t = (call (withdraw n), t)
-good-entry log at bars (logged.Bigs n) next after h t = (call (deriveBigs n), t)
-good-entry log at bars (logged.Superiors n) next after h t = (call (deriveSuperiors n), t)
-good-entry log at bars (logged.Bar high low) next after h t = (bar high low, t)
-good-entry log at bars logged.Bad next after h t = absurd (h refl)
+good-entry log at bars (entry.Call k) next after h t = (call (callOf k), t)
+good-entry log at bars (entry.Bar high low) next after h t = (bar high low, t)
+good-entry log at bars entry.Bad next after h t = absurd (h refl)
 
 -- the place of the first bad entry, by the entries
 pub bad-here : (log : List ℕ) (at bars next after : ℕ) → Told log at bars none next after → some at ≡ badAt (restOf log at bars)

@@ -5,25 +5,18 @@ use mathlib.Core.List.{List}
 use mathlib.Core.Option.{Option, none, some}
 use lib.ListN.{length, drop}
 use Rattle.rules.specs.Answer.{AnswerBy, refused, given}
-use Rattle.rules.specs.Machine.{addStroke, addSegment, addBig, addSuperior, lengthen, withdraw, deriveBigs, deriveSuperiors}
-use Rattle.log.specs.declared.Logged.{Logged}
+use Rattle.rules.specs.Machine.{callOf}
+use Rattle.log.specs.declared.LogEntry.{LogEntry}
 use Rattle.log.specs.declared.Place.{Place}
-use Rattle.log.specs.declared.Logged.the-variants as logged
+use Rattle.log.specs.declared.LogEntry.the-variants as entry
 use Rattle.log.specs.declared.Place.the-variants as place
 use Rattle.log.specs.Log.{Entry, call, bar, Form, counted, inFront, spelledFrom}
 
 -- the entry that is read, none standing for a bad one
-abbrev pub entryOf : Logged → Option Entry
-entryOf (logged.Stroke s) = some (call (addStroke s))
-entryOf (logged.Segment t) = some (call (addSegment t))
-entryOf (logged.Big t) = some (call (addBig t))
-entryOf (logged.Superior t) = some (call (addSuperior t))
-entryOf (logged.Lengthen last) = some (call (lengthen last))
-entryOf (logged.Withdraw level) = some (call (withdraw level))
-entryOf (logged.Bigs byte) = some (call (deriveBigs byte))
-entryOf (logged.Superiors byte) = some (call (deriveSuperiors byte))
-entryOf (logged.Bar high low) = some (bar high low)
-entryOf logged.Bad = none
+abbrev pub entryOf : LogEntry → Option Entry
+entryOf (entry.Call k) = some (call (callOf k))
+entryOf (entry.Bar high low) = some (bar high low)
+entryOf entry.Bad = none
 
 -- the place of a bad entry, where there is one
 abbrev pub placeOf : Place → Option ℕ

@@ -1,31 +1,22 @@
 // Reading a log of calls on a live chart and of bars: each entry, and whether every entry of a log is good.
-use chart::Stroke;
-use chart::Triple;
+use chart::Call;
 ghost use mathlib.Core.Path.{_≡_};
-ghost use mathlib.Core.Option.{none, some};
+ghost use mathlib.Core.Option.{none};
 ghost use Prim.Native.Nat.{_≤_, _<_};
 ghost use lib.ListN.{length};
-ghost use Rattle.rules.specs.File.{price};
-ghost use Rattle.log.specs.Log.{bar, formOf, spelled};
+ghost use Rattle.log.specs.Log.{formOf, spelled};
 ghost use Rattle.log.specs.Entries.{entryOf, placeOf, badAt, widthBy, entryBy, countedBy, Told};
 
 // An entry that a log spells: a call, or a bar with its high, then its low.
-pub enum Logged {
-    Stroke(Stroke),
-    Segment(Triple),
-    Big(Triple),
-    Superior(Triple),
-    Lengthen(u16),
-    Withdraw(u8),
-    Bigs(u8),
-    Superiors(u8),
+pub enum LogEntry {
+    Call(Call),
     Bar(f64, f64),
     Bad,
 }
 
 // An entry, the place behind it, and how many bars there are up to there.
 pub struct Next {
-    pub entry: Logged,
+    pub entry: LogEntry,
     pub next: usize,
     pub bars: usize,
 }
@@ -34,14 +25,6 @@ pub struct Next {
 pub enum Place {
     At(usize),
     Nowhere,
-}
-
-// The bar in the fields, whatever its prices are.
-fn bar_in(s: &[u8]) -> Logged
-    requires { ⌜ 16 ≤ length (now s) ⌝ }
-    ensures { λ r. ⌜ entryOf r ≡ some (bar (price 0 (now (s .entry))) (price 8 (now (s .entry)))) ⌝ }
-{
-    Logged::Bar(fields::price_at(s, 0), fields::price_at(s, 8))
 }
 
 // How many bytes of fields a letter has behind it, 0 where it is none.
@@ -61,30 +44,30 @@ fn width_of(letter: u8) -> usize
 }
 
 // The entry of a letter with these fields.
-fn entry_in(letter: u8, s: &[u8]) -> Logged
+fn entry_in(letter: u8, s: &[u8]) -> LogEntry
     requires { ⌜ widthBy (formOf letter) ≤ length (now s) ⌝ }
     ensures { λ r. ⌜ entryOf r ≡ entryBy (formOf letter) (now (s .entry)) ⌝ }
 {
     match letter {
-        b'S' => Logged::Stroke(fields::stroke_in(s)),
-        b'G' => Logged::Segment(fields::triple_in(s)),
-        b'B' => Logged::Big(fields::triple_in(s)),
-        b'U' => Logged::Superior(fields::triple_in(s)),
-        b'L' => Logged::Lengthen(fields::two_at(s, 0)),
-        b'W' => Logged::Withdraw(s[0]),
-        b'D' => Logged::Bigs(s[0]),
-        b'E' => Logged::Superiors(s[0]),
-        b'Q' => bar_in(s),
-        _ => Logged::Bad,
+        b'S' => LogEntry::Call(Call::Stroke(fields::stroke_in(s))),
+        b'G' => LogEntry::Call(Call::Segment(fields::triple_in(s))),
+        b'B' => LogEntry::Call(Call::Big(fields::triple_in(s))),
+        b'U' => LogEntry::Call(Call::Superior(fields::triple_in(s))),
+        b'L' => LogEntry::Call(Call::Lengthen(fields::two_at(s, 0))),
+        b'W' => LogEntry::Call(Call::Withdraw(s[0])),
+        b'D' => LogEntry::Call(Call::DeriveBigs(s[0])),
+        b'E' => LogEntry::Call(Call::DeriveSuperiors(s[0])),
+        b'Q' => LogEntry::Bar(fields::price_at(s, 0), fields::price_at(s, 8)),
+        _ => LogEntry::Bad,
     }
 }
 
 // How many bars there are up to an entry and with it.
-fn counted(bars: usize, entry: Logged) -> usize
+fn counted(bars: usize, entry: LogEntry) -> usize
     requires { ⌜ bars ≤ 2048 ⌝ }
     ensures { λ r. ⌜ r ≡ countedBy bars (entryOf entry) ⌝ }
 {
-    if let Logged::Bar(_, _) = entry {
+    if let LogEntry::Bar(_, _) = entry {
         return bars + 1;
     }
     bars
@@ -95,7 +78,7 @@ fn bad(at: usize, bars: usize) -> Next
     ensures { λ r. ⌜ entryOf (r .entry) ≡ none ⌝ }
 {
     Next {
-        entry: Logged::Bad,
+        entry: LogEntry::Bad,
         next: at,
         bars: bars,
     }
@@ -137,7 +120,7 @@ pub fn bad_place(log: &[u8]) -> Place
     while at < log.len() {
         let n = next_entry(log, at, bars);
         let entry = n.entry;
-        if let Logged::Bad = entry {
+        if let LogEntry::Bad = entry {
             return Place::At(at);
         }
         at = n.next;

@@ -9,7 +9,7 @@ use Rattle.rules.specs.Records.{Quotes}
 use Rattle.rules.specs.Calls.{thirdCall, nCall}
 use Rattle.live.specs.Sequence.{done}
 use Rattle.log.specs.Log.{Entry, spelled, callsIn, barsIn}
-use Rattle.log.proofs.Among.{as-many}
+use Rattle.log.proofs.CallsAndBars.{as-many}
 use Rattle.playback.specs.declared.Replayed.{Replayed}
 use Rattle.playback.specs.Replays.{Outcome, Replays}
 use Rattle.promise.specs.Promise.{Promise}

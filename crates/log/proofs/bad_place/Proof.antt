@@ -30,7 +30,7 @@ good :
     (c .before .next-entry .result .bars)
 good c =
     good-entry _ _ _ (c .before .next-entry .result .entry) _ _
-    (λ e. miss (0 ∷ 1 ∷ 2 ∷ 3 ∷ 4 ∷ 5 ∷ 6 ∷ 7 ∷ 8 ∷ []) 9 tt (rw e at (c .match .keys2)))
+    (λ e. miss (0 ∷ 1 ∷ []) 2 tt (rw e at (c .match .keys2)))
     (c .before .next-entry .ensures)
 
 loop-holds : tie.Need-loop-holds Inv-loop μ-loop

@@ -17,7 +17,7 @@ returns c = with-bar _ _ _ _ (c .enum-told .given .1)
 
 returns-2 : tie.Need-returns-2
 returns-2 c =
-    with-call _ (c .before .args .entry) (λ high low e. miss (0 ∷ 1 ∷ 2 ∷ 3 ∷ 4 ∷ 5 ∷ 6 ∷ 7 ∷ 9 ∷ []) 8 tt (rw e at (c .match .keys2)))
+    with-call _ (c .before .args .entry) (λ high low e. miss (0 ∷ 2 ∷ []) 1 tt (rw e at (c .match .keys2)))
 
 pub counted-spec : {M : Type 1} → statement M
 counted-spec = tie.close (tie.spec enum-told add-result returns returns-2)

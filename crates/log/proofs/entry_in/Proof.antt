@@ -35,21 +35,25 @@ two-at-requires : tie.Need-two-at-requires
 unfolding widthBy formOf forms ascii
 two-at-requires c κs = wide-as _ 76 (c .match .keys5) _ (c .before .before .pre)
 
-shared-slice-read-t10 : tie.Need-shared-slice-read-t10
+shared-slice-read-t15 : tie.Need-shared-slice-read-t15
 unfolding widthBy formOf forms ascii
-shared-slice-read-t10 c = wide-as _ 87 (c .before .match .keys6) _ (c .before .before .before .pre)
+shared-slice-read-t15 c = wide-as _ 87 (c .before .match .keys6) _ (c .before .before .before .pre)
 
-shared-slice-read-t12 : tie.Need-shared-slice-read-t12
+shared-slice-read-t18 : tie.Need-shared-slice-read-t18
 unfolding widthBy formOf forms ascii
-shared-slice-read-t12 c = wide-as _ 68 (c .before .match .keys7) _ (c .before .before .before .pre)
+shared-slice-read-t18 c = wide-as _ 68 (c .before .match .keys7) _ (c .before .before .before .pre)
 
-shared-slice-read-t14 : tie.Need-shared-slice-read-t14
+shared-slice-read-t21 : tie.Need-shared-slice-read-t21
 unfolding widthBy formOf forms ascii
-shared-slice-read-t14 c = wide-as _ 69 (c .before .match .keys8) _ (c .before .before .before .pre)
+shared-slice-read-t21 c = wide-as _ 69 (c .before .match .keys8) _ (c .before .before .before .pre)
 
-bar-in-requires : tie.Need-bar-in-requires
+price-at-requires : tie.Need-price-at-requires
 unfolding widthBy formOf forms ascii
-bar-in-requires c κs = wide-as _ 81 (c .match .keys9) _ (c .before .before .pre)
+price-at-requires c κs = omega (arith, wide-as _ 81 (c .match .keys9) _ (c .before .before .pre))
+
+price-at-requires-2 : tie.Need-price-at-requires-2
+unfolding widthBy formOf forms ascii
+price-at-requires-2 c κs = omega (arith, wide-as _ 81 (c .before .match .keys9) _ (c .before .before .before .pre))
 
 returns : tie.Need-returns
 unfolding entryBy formOf forms ascii
@@ -91,7 +95,7 @@ returns-8 c =
 
 returns-9 : tie.Need-returns-9
 unfolding entryBy formOf forms ascii
-returns-9 c = c .bar-in .ensures ∙ entry-as _ 81 (c .before .match .keys9) _
+returns-9 c = rw (c .before .price-at .ensures, c .price-at2 .ensures) (entry-as _ 81 (c .before .before .match .keys9) _)
 
 returns-10 : tie.Need-returns-10
 returns-10 c =
@@ -111,10 +115,11 @@ entry-in-spec =
     triple-in-requires-2
     triple-in-requires-3
     two-at-requires
-    shared-slice-read-t10
-    shared-slice-read-t12
-    shared-slice-read-t14
-    bar-in-requires
+    shared-slice-read-t15
+    shared-slice-read-t18
+    shared-slice-read-t21
+    price-at-requires
+    price-at-requires-2
     returns
     returns-2
     returns-3
