@@ -2,8 +2,8 @@
 use Prim.Native.Nat.{ℕ, suc}
 use native.Mathlib.Omega.{arith}
 use mathlib.Core.Path.{_≡_, refl, sym, ap, _∙_}
-use mathlib.Core.Bool.{Bool, true, false, not, _&&_, _||_}
-use mathlib.Core.List.{List, [], _∷_}
+use mathlib.Core.Bool.{true, false, not, _||_, and-false}
+use mathlib.Core.List.{List}
 use mathlib.Core.Option.{none, some}
 use lib.ListN.{getD}
 use lib.Dec.{eqb}
@@ -15,9 +15,9 @@ use Rattle.chart.specs.declared.Triple.{Triple}
 use Rattle.rules.specs.Text.{ascii}
 use Rattle.rules.specs.Refusals.{refuse, aboveOne, badPrices}
 use Rattle.rules.specs.Answer.{refused, given, answered}
-use Rattle.rules.specs.Lists.{find}
 use Rattle.rules.specs.File.{Kind, ST, SG, BG, SU, BR, markOf, width, isMark, kindOf, Record, stroke, segment, big, superior, bar}
 use Rattle.rules.specs.File.{price, strokeIn, tripleIn, recordIn, fieldRefusal}
+use Rattle.laws.proofs.Lists.{nil, cons, find-none}
 use Rattle.chart_read.specs.declared.Level.{Level}
 use Rattle.chart_read.specs.declared.Mark.{Mark}
 use Rattle.chart_read.specs.Heads.{levelKind, kindBy, tripleBy, checked}
@@ -26,13 +26,6 @@ use Rattle.chart_read.specs.declared.Mark.the-variants as mark
 
 -- ---- the marks
 
-passed : (p : Kind → Bool) (k : Kind) (ks : List Kind) → p k ≡ false → find p (k ∷ ks) ≡ find p ks
-passed p k ks e = rw (find, e)
-
-and-false : (x y : Bool) → y ≡ false → (x && y) ≡ false
-and-false true y e = e
-and-false false y e = refl
-
 module _ (a b : ℕ) where
   first : (k : Kind) → (a ≡ getD (markOf k) 0 0 → ⊥) → isMark a b k ≡ false
   unfolding isMark
@@ -40,19 +33,13 @@ module _ (a b : ℕ) where
 
   second : (k : Kind) → (b ≡ getD (markOf k) 1 0 → ⊥) → isMark a b k ≡ false
   unfolding isMark
-  second k h = and-false (eqb a (getD (markOf k) 0 0)) (eqb b (getD (markOf k) 1 0)) (ne-eqb b (getD (markOf k) 1 0) h)
+  second k h = rw (ne-eqb b (getD (markOf k) 1 0) h) (and-false (eqb a (getD (markOf k) 0 0)))
 
   no-kind :
       isMark a b ST ≡ false → isMark a b SG ≡ false → isMark a b BG ≡ false → isMark a b SU ≡ false → isMark a b BR ≡ false
       → none ≡ kindOf a b
   unfolding kindOf
-  no-kind st sg bg su br =
-      sym
-      (passed (isMark a b) ST (SG ∷ BG ∷ SU ∷ BR ∷ []) st
-      ∙ passed (isMark a b) SG (BG ∷ SU ∷ BR ∷ []) sg
-      ∙ passed (isMark a b) BG (SU ∷ BR ∷ []) bg
-      ∙ passed (isMark a b) SU (BR ∷ []) su
-      ∙ passed (isMark a b) BR [] br)
+  no-kind st sg bg su br = sym (find-none (isMark a b) (cons st (cons sg (cons bg (cons su (cons br nil))))))
 
   pub mark-bar : a ≡ 66 → b ≡ 82 → some BR ≡ kindOf a b
   unfolding kindOf isMark markOf ascii

@@ -7,8 +7,7 @@ ghost use mathlib.Core.Bool.{true, not, _||_};
 ghost use Prim.Native.Nat.{_≤_};
 ghost use lib.ListN.{length};
 ghost use Rattle.price.specs.Price.{isPrice};
-ghost use Rattle.rules.specs.Records.{Quotes, levelsOf};
-ghost use Rattle.rules.specs.File.{ST, BR, kindOf, width, nothing, readRecord, readFile, readCall, slicesAfter};
+ghost use Rattle.rules.specs.File.{ST, BR, kindOf, width, readRecord, readFile, readCall, slicesAfter};
 ghost use Rattle.chart_read.specs.Loaded.{loaded};
 ghost use Rattle.chart_read.specs.Heads.{levelKind, kindBy, markedBy, answerOf, checked, fullBy, countBars, counted, isGiven};
 

@@ -4,10 +4,10 @@ use native.Mathlib.Omega.{arith}
 use mathlib.Core.Path.{_≡_, refl, sym, ap, _∙_}
 use mathlib.Core.List.{List, [], _++_, append-assoc, append-nil}
 use lib.ListN.{length, take, drop, length-append, length-take, length-drop, take-append-drop, drop-of-length-le}
-use lib.Seq.{length-take-le, drop-drop, take-all}
+use lib.Seq.{length-take-le, drop-drop}
 use borrow.Rule.Slice.PartMut.{putMid}
 use Rattle.rules.specs.File.{fill}
-use Rattle.laws.proofs.FileCode.{fill-further}
+use Rattle.laws.proofs.FileCode.{fill-further, part}
 use Rattle.chart_write.specs.Put.{putAt}
 
 -- no bytes
@@ -58,17 +58,14 @@ length-put bytes old at h =
     )
 
 -- put into a part that is lent from place `at` to the end
-lent-all : (at : ℕ) (old : List ℕ) → take (length old - at) (drop at old) ≡ drop at old
-lent-all at old = take-all (length old - at) (drop at old) (omega (arith, length-drop at old))
-
 lent-none : (at : ℕ) (old : List ℕ) → drop (length old - at) (drop at old) ≡ []
 lent-none at old = drop-of-length-le (drop at old) {i = length old - at} (omega (arith, length-drop at old))
 
 lent-put :
-    (bytes old part : List ℕ) (at : ℕ) → at ≤ length old → part ≡ fill bytes (take (length old - at) (drop at old))
-    → putMid at (length old - at) old part ≡ putAt bytes at old
+    (bytes old lent : List ℕ) (at : ℕ) → at ≤ length old → lent ≡ fill bytes (take (length old - at) (drop at old))
+    → putMid at (length old - at) old lent ≡ putAt bytes at old
 unfolding putAt
-lent-put bytes old part at h e = rw (lent-none at old, append-nil part, e, lent-all at old)
+lent-put bytes old lent at h e = rw (lent-none at old, append-nil lent, e, part old at)
 
 -- a loop that has some bytes left to write, of those that it puts from place `at` on
 pub record Writing (at : ℕ) (all old : List ℕ) (end : ℕ) (left buffer : List ℕ) : Type 0 where
@@ -91,16 +88,16 @@ module _ {at end k : ℕ} {all old left buffer new rest : List ℕ} (w : Writing
 
   -- it has its place in the part that is lent
   pub room-next : k ≤ length (take (length buffer - end) (drop end buffer))
-  room-next = rw (lent-all end buffer) (omega (arith, fits-next, length-drop end buffer))
+  room-next = rw (part buffer end) (omega (arith, fits-next, length-drop end buffer))
 
   -- and is put there
   pub written-next :
-      (part : List ℕ) → part ≡ fill new (take (length buffer - end) (drop end buffer))
-      → Writing at all old (end + k) rest (putMid end (length buffer - end) buffer part)
-  written-next part p =
+      (lent : List ℕ) → lent ≡ fill new (take (length buffer - end) (drop end buffer))
+      → Writing at all old (end + k) rest (putMid end (length buffer - end) buffer lent)
+  written-next lent p =
       let fits = fits-next in
       let size = n .size in
-      rw (lent-put new buffer part end (omega arith) p)
+      rw (lent-put new buffer lent end (omega arith) p)
       record {
         place = omega (arith, ap length (n .split), length-append new rest);
         room = w .room;

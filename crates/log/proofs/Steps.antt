@@ -4,7 +4,7 @@ use native.Mathlib.Omega.{arith}
 use native.Mathlib.Nat.{zero-add}
 use native.Mathlib.Numerals.{add-one}
 use mathlib.Core.Path.{_≡_, refl, sym, ap, _∙_, subst}
-use mathlib.Core.Bool.{Bool, true, false, _&&_, cond}
+use mathlib.Core.Bool.{Bool, true, false, _&&_, cond, and-false}
 use mathlib.Core.Logic.{_⊎_, ⊎-elim, inl, inr}
 use mathlib.Core.List.{List, [], _∷_}
 use mathlib.Core.Option.{Option, none, some}
@@ -27,10 +27,6 @@ use Rattle.log.specs.Entries.{entryOf, badAt, widthBy, entryBy, countedB
 
 -- ---- the form of an entry
 
-and-none : (b : Bool) → (b && false) ≡ false
-and-none true = refl
-and-none false = refl
-
 module _ (at bars : ℕ) (fields : List ℕ) (f : Form) where
   abbrev long : Bool
   long = leb (f .width) (length fields)
@@ -51,11 +47,11 @@ module _ (at bars : ℕ) (fields : List ℕ) (f : Form) where
 
   pub good-late : 65536 < at + suc (f .width) → good at bars fields f ≡ false
   unfolding good
-  good-late l = rw (lt-leb (at + suc (f .width)) 65536 l, and-none long)
+  good-late l = rw (lt-leb (at + suc (f .width)) 65536 l, and-false long)
 
   pub good-many : 2048 < counted bars (f .entry fields) → good at bars fields f ≡ false
   unfolding good
-  good-many l = rw (lt-leb (counted bars (f .entry fields)) 2048 l) (and-none (long && early))
+  good-many l = rw (lt-leb (counted bars (f .entry fields)) 2048 l) (and-false (long && early))
 
   good-says : good at bars fields f ≡ true → (f .width ≤ length fields) × (at + suc (f .width) ≤ 65536) × (counted bars (f .entry fields) ≤ 2048)
   unfolding good

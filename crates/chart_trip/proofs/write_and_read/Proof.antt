@@ -2,7 +2,6 @@
 use mathlib.Core.Path.{_≡_, sym}
 use mathlib.Core.Bool.{false}
 use lib.Seq.{length-take-le}
-use native.Mathlib.Omega.{arith}
 use Rattle.rules.specs.Records.{levelsOf}
 use Rattle.laws.proofs.FileBytes.{wide}
 use Rattle.laws.proofs.FileHeld.{anyLevel}
