@@ -26,14 +26,21 @@ def behind_lengths(files):
     """many files in one: each its length (u32) and its bytes"""
     return b"".join(struct.pack("<I", len(f)) + f for f in files)
 
-def cut(data):
-    """the files behind their lengths"""
-    out = []
-    while data:
-        n = 4 + struct.unpack("<I", data[:4])[0]
-        out.append(data[4:n])
-        data = data[n:]
-    return out
+# of the stored cases of the program vectors; the number of a kind is its place
+KINDS = [b"UNKNOWN", b"REPORT", b"REWRITE", b"REPLAY"]
+
+def stream(cases):
+    """cases, each of them its kind, its bytes and perhaps more, in one: the kind's number (a byte), the length (u32) and the bytes"""
+    return b"".join(struct.pack("<BI", KINDS.index(kind), len(case)) + case for kind, case, *_ in cases)
+
+def cases(data):
+    """kind and bytes of the cases of a stream, but of one that is cut short"""
+    out, at = [], 0
+    while at + 5 <= len(data):
+        kind, n = struct.unpack_from("<BI", data, at)
+        out.append((KINDS[kind], data[at + 5:at + 5 + n]))
+        at += 5 + n
+    return out if at == len(data) else out[:-1]
 
 # what `report` prints, in its order, as oracle/main.rs names it
 SECTIONS = ["ranges", "zones", "third", "threen", "labels", "classes", "firsts"]

@@ -681,7 +681,7 @@ def generated(seed, i):
     return log
 
 def replay_corpus():
-    """the logs of crates/replay_vectors: those made for a purpose, generated short ones, and long ones"""
+    """the logs of crates/vectors: those made for a purpose, generated short ones, and long ones"""
     short = [log for log in (generated(7, i) for i in range(240)) if len(log) < 1000]
     more = [packed(f(random.Random(f"corpus {f.__name__} {i}"))) for f, n in ((long, 2), (full, 1)) for i in range(n)]
     return list(dict.fromkeys([log for _, log, _ in special()] + short[:90] + more))

@@ -1,10 +1,10 @@
--- `rewrite_vectors::write_first` meets its contract. Assumes nothing.
+-- `vectors::write_first` meets its contract. Assumes nothing.
 use mathlib.Core.Path.{sym}
 use lib.Seq.{length-take-le}
 use native.Mathlib.Omega.{arith}
 use borrow.Author.Needs.{needs}
-use Rattle.rewrite_vectors.proofs.write_first.Statement.{statement}
-use Rattle.rewrite_vectors.proofs.write_first.Tie as tie
+use Rattle.vectors.proofs.write_first.Statement.{statement}
+use Rattle.vectors.proofs.write_first.Tie as tie
 
 returns : tie.Need-returns
 returns c = search needs
@@ -12,8 +12,8 @@ returns c = search needs
 returns-2 : tie.Need-returns-2
 returns-2 c = search needs
 
-large-requires : tie.Need-large-requires
-large-requires c κs = search needs
+large-buffer-requires : tie.Need-large-buffer-requires
+large-buffer-requires c κs = search needs
 
 slice-aggregate-write-chart : tie.Need-slice-aggregate-write-chart
 slice-aggregate-write-chart c =
@@ -46,7 +46,7 @@ write-first-spec =
     (tie.spec
     returns
     returns-2
-    large-requires
+    large-buffer-requires
     slice-aggregate-write-chart
     slice-aggregate-write-chart-2
     slice-aggregate-write-chart-3

@@ -1,0 +1,117 @@
+// Replays a stream of stored cases and prints what comes of each. A case is its kind, a byte; its length, a u32 with the lowest byte first; and so
+// many bytes. Kinds: 1 a chart file, reported; 2 a chart file, read and written again; 3 a log, replayed. What must be printed was written by the
+// reference, by a packer and by a machine in Python (oracle/README.md). Of this program only safety is proved.
+ghost use mathlib.Core.Path.{_≡_};
+ghost use Prim.Native.Nat.{_+_, _≤_, _<_};
+ghost use lib.ListN.{length};
+
+fn room() -> [u8; 2097152]
+    ensures { λ r. ⌜ 2097152 ≡ length r ⌝ }
+{
+    [0; 2097152]
+}
+
+fn print_line(name: &[u8], n: u64) {
+    io::write_all(1, name);
+    io::print_decimal(1, n);
+    io::write_all(1, b"\n");
+}
+
+// ---- a chart file read and written again
+
+// The first n bytes, behind a line with their number.
+fn print_first(bytes: &[u8], n: usize) {
+    if n <= bytes.len() {
+        print_line(b"BYTES ", n as u64);
+        io::write_all(1, &bytes[..n]);
+    }
+}
+
+// The chart with its first n bars.
+fn write_first(chart: chart::Chart, highs: &[f64], lows: &[f64], n: usize) {
+    if highs.len() < n {
+        return;
+    }
+    if lows.len() < n {
+        return;
+    }
+    let mut buffer = io::large_buffer();
+    let done = chart_write::write_chart(chart, &highs[..n], &lows[..n], &mut buffer);
+    print_first(&buffer, done.count);
+}
+
+// Bars, strokes, segments, bigs, superiors.
+fn rewrite(file: &[u8]) {
+    let mut highs = [0.0; 2048];
+    let mut lows = [0.0; 2048];
+    let read = chart_read::read_chart(file, &mut highs, &mut lows);
+    write_first(read.chart, &highs, &lows, read.bars);
+}
+
+// ---- cases
+
+// A case, behind a line with its kind and its number in the stream.
+fn print_case(kind: u8, number: u64, case: &[u8]) {
+    match kind {
+        1 => {
+            print_line(b"REPORT ", number);
+            sections::print_report(case);
+        }
+        2 => {
+            print_line(b"REWRITE ", number);
+            rewrite(case);
+        }
+        3 => {
+            print_line(b"REPLAY ", number);
+            replay_lines::print_replay(case);
+        }
+        _ => {
+            print_line(b"UNKNOWN ", number);
+        }
+    }
+}
+
+fn wide(x: u8) -> usize
+    ensures { λ r. ⌜ r < 256 ⌝ }
+{
+    x as usize
+}
+
+// Where the case that starts at `at` ends: behind the end of s, if it is cut short.
+fn end_of(s: &[u8], at: usize) -> usize
+    requires { ⌜ (at ≤ length (now s)) × (length (now s) < 0x1000_0000) ⌝ }
+    ensures { λ r. ⌜ at + 5 ≤ r ⌝ }
+{
+    if s.len() - at < 5 {
+        return at + 5;
+    }
+    at
+        + 5
+        + wide(s[at + 1])
+        + 256 * (wide(s[at + 2]) + 256 * (wide(s[at + 3]) + 256 * wide(s[at + 4])))
+}
+
+// Each case of the stream; a line for one that is cut short.
+fn print_cases(input: &[u8])
+    requires { ⌜ length (now input) < 0x1000_0000 ⌝ }
+{
+    let mut at = 0usize;
+    let mut i = 0u64;
+    while at < input.len() {
+        let end = end_of(input, at);
+        if input.len() < end {
+            print_line(b"CUT ", i);
+            return;
+        }
+        let from = at + 5;
+        print_case(input[at], i, &input[from..end]);
+        at = end;
+        i += 1;
+    }
+}
+
+fn main() {
+    let mut buffer = room();
+    let n = io::read_full(0, &mut buffer);
+    print_cases(&buffer[..n]);
+}
