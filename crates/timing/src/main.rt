@@ -11,57 +11,16 @@ enum Call {
     Unknown,
 }
 
-// An argument of at most eight bytes, with zeros behind it.
-fn word(i: usize) -> [u8; 8] {
-    let mut bytes = [0u8; 8];
-    os::arg(i, &mut bytes);
-    bytes
-}
-
-fn same(a: [u8; 8], b: [u8; 8]) -> bool {
-    for i in 0..8 {
-        if a[i] != b[i] {
-            return false;
-        }
-    }
-    true
-}
-
 fn call_of(name: [u8; 8]) -> Call {
-    if same(name, [b'z', b'o', b'n', b'e', b's', 0, 0, 0]) {
+    if arguments::same(name, *b"zones\0\0\0") {
         Call::Zones
-    } else if same(name, [b't', b'h', b'i', b'r', b'd', 0, 0, 0]) {
+    } else if arguments::same(name, *b"third\0\0\0") {
         Call::Third
-    } else if same(name, [b't', b'h', b'r', b'e', b'e', b'n', 0, 0]) {
+    } else if arguments::same(name, *b"threen\0\0") {
         Call::Threen
     } else {
         Call::Unknown
     }
-}
-
-// A decimal digit's value; 0 of any other byte.
-fn value(byte: u8) -> u32
-    ensures { λ r. ⌜ r ≤ 9 ⌝ }
-{
-    if byte < 48 {
-        0
-    } else if byte < 58 {
-        (byte - 48) as u32
-    } else {
-        0
-    }
-}
-
-// The number before the first zero.
-fn number(digits: [u8; 8]) -> u32 {
-    let mut n = 0u32;
-    for i in 0..8 {
-        if digits[i] == 0 {
-            return n;
-        }
-        n = n % 10000000 * 10 + value(digits[i]);
-    }
-    n
 }
 
 // The stroke that turn i changes: not the first of a big of a full chart, and in a small one perhaps behind the last.
@@ -79,7 +38,7 @@ fn value_of(count: u16, bar: u16) -> u16 {
     std::num::wrapping_add_u16(count, bar)
 }
 
-// A turn of each call, which is handed the chart by value: a function for each, so that no call is merged with another.
+// A turn of each call, which is handed the chart by value.
 fn zones_turn(chart: Chart) -> u16 {
     let found = zones::detect_bigseg_zhongshus_by_overlap(chart);
     let m = printing::shown(found.count, 256) / 2;
@@ -101,60 +60,30 @@ fn threen_turn(chart: Chart, highs: &[f64], lows: &[f64]) -> u16 {
     value_of(found.count, rows[m].bar_index)
 }
 
-// The sum of so many turns of a call, modulo 65,536. Before each the start price of a stroke is changed, so that no turn is taken out of the
-// loop. The first turn stands before the loop: what is called at two places stays a function, and shares no stack frame with the other calls.
-fn zones_sum(start: Chart, turns: u32) -> u16 {
-    if turns == 0 {
-        return 0;
-    }
-    let mut chart = start;
-    chart.strokes[1].start_price = chart.strokes[1].start_price + 0.25;
-    let mut sum = zones_turn(chart);
-    for i in 1..turns {
-        let k = place(i);
-        chart.strokes[k].start_price = chart.strokes[k].start_price + 0.25;
-        sum = std::num::wrapping_add_u16(sum, zones_turn(chart));
-    }
-    sum
-}
-
-fn third_sum(start: Chart, highs: &[f64], lows: &[f64], turns: u32) -> u16 {
-    if turns == 0 {
-        return 0;
-    }
-    let mut chart = start;
-    chart.strokes[1].start_price = chart.strokes[1].start_price + 0.25;
-    let mut sum = third_turn(chart, highs, lows);
-    for i in 1..turns {
-        let k = place(i);
-        chart.strokes[k].start_price = chart.strokes[k].start_price + 0.25;
-        sum = std::num::wrapping_add_u16(sum, third_turn(chart, highs, lows));
-    }
-    sum
-}
-
-fn threen_sum(start: Chart, highs: &[f64], lows: &[f64], turns: u32) -> u16 {
-    if turns == 0 {
-        return 0;
-    }
-    let mut chart = start;
-    chart.strokes[1].start_price = chart.strokes[1].start_price + 0.25;
-    let mut sum = threen_turn(chart, highs, lows);
-    for i in 1..turns {
-        let k = place(i);
-        chart.strokes[k].start_price = chart.strokes[k].start_price + 0.25;
-        sum = std::num::wrapping_add_u16(sum, threen_turn(chart, highs, lows));
-    }
-    sum
-}
-
-fn sum_of(call: Call, chart: Chart, highs: &[f64], lows: &[f64], turns: u32) -> u16 {
+fn turn_of(call: Call, chart: Chart, highs: &[f64], lows: &[f64]) -> u16 {
     match call {
-        Call::Zones => zones_sum(chart, turns),
-        Call::Third => third_sum(chart, highs, lows, turns),
-        Call::Threen => threen_sum(chart, highs, lows, turns),
+        Call::Zones => zones_turn(chart),
+        Call::Third => third_turn(chart, highs, lows),
+        Call::Threen => threen_turn(chart, highs, lows),
         Call::Unknown => 0,
     }
+}
+
+// The sum of so many turns of a call, modulo 65,536. Before each the start price of a stroke is changed, so that no turn is taken out of the
+// loop. The first turn stands before the loop: what is called at two places stays a function.
+fn sum_of(call: Call, start: Chart, highs: &[f64], lows: &[f64], turns: u32) -> u16 {
+    if turns == 0 {
+        return 0;
+    }
+    let mut chart = start;
+    chart.strokes[1].start_price = chart.strokes[1].start_price + 0.25;
+    let mut sum = turn_of(call, chart, highs, lows);
+    for i in 1..turns {
+        let k = place(i);
+        chart.strokes[k].start_price = chart.strokes[k].start_price + 0.25;
+        sum = std::num::wrapping_add_u16(sum, turn_of(call, chart, highs, lows));
+    }
+    sum
 }
 
 // The places that a file's bars fill: as many as there are bars, and no more than an array has.
@@ -182,7 +111,7 @@ fn print_sum(file: &[u8], call: Call, turns: u32) {
 fn main() {
     let mut buffer = io::large_buffer();
     let n = io::read_full(0, &mut buffer);
-    let call = call_of(word(1));
-    let turns = number(word(2));
+    let call = call_of(arguments::word(1));
+    let turns = arguments::number(arguments::word(2));
     print_sum(&buffer[..n], call, turns);
 }

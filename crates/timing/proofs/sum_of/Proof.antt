@@ -1,14 +1,14 @@
--- `timing::third_sum` meets its contract. Assumes nothing.
+-- `timing::sum_of` meets its contract. Assumes nothing.
 use Prim.Native.Nat.{_-_, _≤_}
 use borrow.Author.Needs.{needs}
-use Rattle.timing.proofs.third_sum.Statement.{statement}
-use Rattle.timing.proofs.third_sum.Tie as tie
+use Rattle.timing.proofs.sum_of.Statement.{statement}
+use Rattle.timing.proofs.sum_of.Tie as tie
 
 abbrev Inv-loop : tie.InvT-loop
-Inv-loop highs lows turns chart₀ sum₀ i₀ chart sum i = i ≤ turns
+Inv-loop call highs lows turns chart₀ sum₀ i₀ chart sum i = i ≤ turns
 
 abbrev μ-loop : tie.MeasureT-loop
-μ-loop highs lows turns chart₀ sum₀ i₀ chart sum i = turns - i
+μ-loop call highs lows turns chart₀ sum₀ i₀ chart sum i = turns - i
 
 returns : tie.Need-returns Inv-loop μ-loop
 returns c = search needs
@@ -19,8 +19,8 @@ element-copy-out-chart c = search needs
 way-write-given-chart : tie.Need-way-write-given-chart Inv-loop μ-loop
 way-write-given-chart c = search needs
 
-third-turn-requires : tie.Need-third-turn-requires Inv-loop μ-loop
-third-turn-requires c κs = search needs
+turn-of-requires : tie.Need-turn-of-requires Inv-loop μ-loop
+turn-of-requires c κs = search needs
 
 loop-holds : tie.Need-loop-holds Inv-loop μ-loop
 loop-holds c = search needs
@@ -40,8 +40,8 @@ mul-chart-2 c = search needs
 way-write-given-chart-2 : tie.Need-way-write-given-chart-2 Inv-loop μ-loop
 way-write-given-chart-2 c = search needs
 
-third-turn-requires-2 : tie.Need-third-turn-requires-2 Inv-loop μ-loop
-third-turn-requires-2 c κs = search needs
+turn-of-requires-2 : tie.Need-turn-of-requires-2 Inv-loop μ-loop
+turn-of-requires-2 c κs = search needs
 
 wrapping-add-u16-requires : tie.Need-wrapping-add-u16-requires Inv-loop μ-loop
 wrapping-add-u16-requires c κs = search needs
@@ -58,8 +58,8 @@ loop-again c = search needs
 returns-2 : tie.Need-returns-2 Inv-loop μ-loop
 returns-2 c = search needs
 
-pub third-sum-spec : {M : Type 1} → statement M
-third-sum-spec =
+pub sum-of-spec : {M : Type 1} → statement M
+sum-of-spec =
     tie.close
     (tie.spec
     Inv-loop
@@ -67,14 +67,14 @@ third-sum-spec =
     returns
     element-copy-out-chart
     way-write-given-chart
-    third-turn-requires
+    turn-of-requires
     loop-holds
     place-requires
     mul-chart
     element-copy-out-chart-2
     mul-chart-2
     way-write-given-chart-2
-    third-turn-requires-2
+    turn-of-requires-2
     wrapping-add-u16-requires
     add-i
     loop-less
