@@ -4,25 +4,21 @@ use native.Mathlib.Omega.{arith}
 use native.Mathlib.Numerals.{add-one}
 use mathlib.Core.Path.{_≡_, refl, sym, ap, _∙_}
 use mathlib.Core.Bool.{true, false}
-use mathlib.Core.Logic.{⊎-elim}
 use mathlib.Core.List.{List, [], _∷_, _++_, append-assoc, append-nil}
 use mathlib.Core.Option.{Option, none, some}
 use lib.ListN.{length, take, set, length-append, length-set}
 use lib.Ieee.{Float}
 use Rattle.rules.specs.Answer.{given}
 use Rattle.rules.specs.Machine.{Call}
-use Rattle.laws.proofs.Tests.{none-some}
 use Rattle.laws.proofs.Arrays.{one-more}
 use Rattle.live.specs.declared.Live.{Live}
 use Rattle.live.specs.Did.{Did, Nothing}
 use Rattle.live.specs.Sequence.{Chain, done, next}
 use Rattle.live.proofs.Chained.{sequence}
-use Rattle.log.specs.declared.Logged.{Logged}
-use Rattle.log.specs.declared.Logged.the-variants as logged
 use Rattle.log.specs.Log.{Entry, call, bar, counted, spelled, callsIn, barsIn}
-use Rattle.log.specs.Entries.{entryOf, badAt, restOf, Told}
-use Rattle.log.proofs.Steps.{Stepped, step, ends, no-bar, bad-says, nowhere-says, few-entries}
-use Rattle.log.proofs.Among.{calls-call, calls-bar, bars-call, highs-bar, lows-bar, calls-few}
+use Rattle.log.specs.Entries.{badAt, restOf, Told}
+use Rattle.log.proofs.Steps.{Stepped, step, ends, bad-says, nowhere-says, few-entries}
+use Rattle.log.proofs.CallsAndBars.{calls-call, calls-bar, bars-call, highs-bar, lows-bar, calls-few}
 use Rattle.playback.specs.Replays.{Replays}
 
 -- one call more
@@ -184,8 +180,3 @@ pub stopped :
     → Replays log (record { answers = answers; highs = highs; lows = lows; chart = b; count = 0; bars = 0; place = p; bad = true })
 unfolding Replays
 stopped log p answers highs lows b e n = rw (bad-says (spelled log) p e) (record { bad = refl; place = refl; count = refl; bars = refl; chart = n })
-
--- an entry that the code finds to be no bar is a call
-pub called :
-    (l : Logged) → ((high low : Float) → l ≡ logged.Bar high low → ⊥) → (e : Entry) → entryOf l ≡ some e → (k : Call) × (entryOf l ≡ some (call k))
-called l h e is = ⊎-elim (λ k. k) (λ n. absurd (none-some (sym n ∙ is))) (no-bar l h)

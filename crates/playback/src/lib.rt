@@ -1,14 +1,11 @@
 // A log of calls, replayed on a live chart that begins with nothing in it, and the bars of the log.
-use live::Answered;
 use live::Live;
-use log::Logged;
+use log::LogEntry;
 use log::Place;
 ghost use mathlib.Core.Path.{_≡_};
-ghost use mathlib.Core.Option.{none, some};
-ghost use Rattle.rules.specs.Machine.{Call};
-ghost use Rattle.live.specs.Did.{Did};
-ghost use Rattle.log.specs.Log.{call, spelled};
-ghost use Rattle.log.specs.Entries.{entryOf, badAt};
+ghost use mathlib.Core.Option.{none};
+ghost use Rattle.log.specs.Log.{spelled};
+ghost use Rattle.log.specs.Entries.{badAt};
 ghost use Rattle.playback.specs.Replays.{Replays};
 
 // What a replay leaves: where an entry of the log is bad, its place, and else an answer for each call, the chart behind them, and the bars of
@@ -24,52 +21,8 @@ pub struct Replayed {
     pub bad: bool,
 }
 
-// A call of a log on a live chart. A bar or a bad entry is never met.
-fn done(b: Live, entry: Logged) -> Answered
-    ensures { λ r. ⌜ ((k : Call) → entryOf entry ≡ some (call k) → Did b k (r .number) (r .chart)) ⌝ }
-{
-    match entry {
-        Logged::Stroke(s) => {
-            return b.add_stroke(s);
-        }
-        Logged::Segment(t) => {
-            return b.add_segment(t);
-        }
-        Logged::Big(t) => {
-            return b.add_big(t);
-        }
-        Logged::Superior(t) => {
-            return b.add_superior(t);
-        }
-        Logged::Lengthen(last) => {
-            return b.lengthen(last);
-        }
-        Logged::Withdraw(level) => {
-            return b.withdraw(level);
-        }
-        Logged::Bigs(byte) => {
-            return b.derive_bigs(byte);
-        }
-        Logged::Superiors(byte) => {
-            return b.derive_superiors(byte);
-        }
-        Logged::Bar(_, _) => {
-            return Answered {
-                chart: b,
-                number: 0,
-            };
-        }
-        Logged::Bad => {
-            return Answered {
-                chart: b,
-                number: 0,
-            };
-        }
-    }
-}
-
 // The calls of a log, each later one on the chart that the call before handed back, and its bars. An entry has two bytes at least, so there
-// are at most 32,768 calls.
+// are at most 32,768 calls; a bad one is never met.
 fn run(log: &[u8]) -> Replayed
     requires { ⌜ none ≡ badAt (spelled (now log)) ⌝ }
     ensures { λ r. ⌜ Replays (now (log .entry)) r ⌝ }
@@ -85,17 +38,21 @@ fn run(log: &[u8]) -> Replayed
         let n = log::next_entry(log, at, bars);
         at = n.next;
         let entry = n.entry;
-        if let Logged::Bar(high, low) = entry {
-            highs[bars] = high;
-            lows[bars] = low;
-            bars += 1;
-            continue;
+        match entry {
+            LogEntry::Call(call) => {
+                let answer = chart.call(call);
+                answers[count] = answer.number;
+                count += 1;
+                let after = answer.chart;
+                chart = after;
+            }
+            LogEntry::Bar(high, low) => {
+                highs[bars] = high;
+                lows[bars] = low;
+                bars += 1;
+            }
+            LogEntry::Bad => {}
         }
-        let answer = done(chart, entry);
-        answers[count] = answer.number;
-        count += 1;
-        let after = answer.chart;
-        chart = after;
     }
     Replayed {
         answers,

@@ -1,17 +1,16 @@
 -- `playback::run` meets its contract. The invariant: the entries in front of the place are done, and those behind it are left. Assumes nothing.
 use Prim.Native.Nat.{_-_, _<_}
 use native.Mathlib.Omega.{arith}
-use mathlib.Core.Path.{_≡_, ap}
-use mathlib.Core.List.{[], _∷_}
+use mathlib.Core.Path.{_≡_, sym, ap, _∙_}
 use mathlib.Core.Option.{some}
 use lib.ListN.{length}
-use types.Run.{miss}
 use borrow.Author.Needs.{needs}
-use Rattle.rules.specs.Machine.{Call}
+use Rattle.laws.proofs.Tests.{none-some}
+use Rattle.rules.specs.Machine.{callOf}
 use Rattle.log.specs.Log.{call, bar}
 use Rattle.log.specs.Entries.{entryOf}
 use Rattle.log.proofs.Steps.{Stepped}
-use Rattle.playback.proofs.Turns.{Underway, begins, stepped, room, bar-room, further-call, further-bar, called, finished}
+use Rattle.playback.proofs.Turns.{Underway, begins, stepped, room, bar-room, further-call, further-bar, finished}
 use Rattle.playback.proofs.run.Statement.{statement}
 use Rattle.playback.proofs.run.Tie as tie
 
@@ -32,27 +31,27 @@ entry-at :
     (c .next-entry .result .bars)
 entry-at c = stepped _ _ _ _ _ _ _ _ _ (c .before .before .loop .inv) _ _ _ (c .next-entry .ensures)
 
+-- a call, and room for its answer
+call-at :
+    (c : tie.After-entry Inv-loop μ-loop)
+    → entryOf (c .before .before .next-entry .result .entry) ≡ some (call (callOf (c .entry .given .0 .0)))
+call-at c = ap entryOf (c .entry .given .1)
+
+fits : (c : tie.After-entry Inv-loop μ-loop) → c .before .before .before .before .loop .count < 32768
+fits c = room _ _ _ _ _ _ _ _ _ (c .before .before .before .before .loop .inv) _ _ _ (entry-at (c .before .before))
+
 -- a bar, and room for it
 bar-at :
-    (c : tie.After-known-told Inv-loop μ-loop)
-    → entryOf (c .before .before .before .next-entry .result .entry)
-    ≡ some (bar (c .before .entry .given .0 .0) (c .before .entry .given .0 .1 .0))
-bar-at c = ap entryOf (c .before .entry .given .1)
+    (c : tie.After-entry2 Inv-loop μ-loop)
+    → entryOf (c .before .before .next-entry .result .entry) ≡ some (bar (c .entry2 .given .0 .0) (c .entry2 .given .0 .1 .0))
+bar-at c = ap entryOf (c .entry2 .given .1)
 
-bar-fits : (c : tie.After-known-told Inv-loop μ-loop) → c .before .before .before .before .before .loop .bars < 2048
-bar-fits c =
-    bar-room _ _ _ _ _ _ _ _ _ (c .before .before .before .before .before .loop .inv) _ _ _ (entry-at (c .before .before .before)) _ _ (bar-at c)
+bar-fits : (c : tie.After-entry2 Inv-loop μ-loop) → c .before .before .before .before .loop .bars < 2048
+bar-fits c = bar-room _ _ _ _ _ _ _ _ _ (c .before .before .before .before .loop .inv) _ _ _ (entry-at (c .before .before)) _ _ (bar-at c)
 
--- a call, and room for its answer
-call-at : (c : tie.After-done Inv-loop μ-loop) → (k : Call) × (entryOf (c .before .before .next-entry .result .entry) ≡ some (call k))
-call-at c =
-    called (c .before .before .next-entry .result .entry)
-    (λ high low e. miss (0 ∷ 1 ∷ 2 ∷ 3 ∷ 4 ∷ 5 ∷ 6 ∷ 7 ∷ 9 ∷ []) 8 tt (rw e at (c .before .match .keys2)))
-    _
-    (entry-at (c .before .before) .is)
-
-fits : (c : tie.After-done Inv-loop μ-loop) → c .before .before .before .before .loop .count < 32768
-fits c = room _ _ _ _ _ _ _ _ _ (c .before .before .before .before .loop .inv) _ _ _ (entry-at (c .before .before))
+-- no entry is bad
+never-bad : (c : tie.After-enum-told Inv-loop μ-loop) → ⊥
+never-bad c = none-some (sym (ap entryOf (c .enum-told .given .1)) ∙ entry-at (c .before .before) .is)
 
 new-requires : tie.Need-new-requires Inv-loop μ-loop
 new-requires c κs = search needs
@@ -66,45 +65,58 @@ next-entry-requires c κs = (search needs, c .before .loop .inv .few)
 enum-known-entry : tie.Need-enum-known-entry Inv-loop μ-loop
 enum-known-entry c = search needs
 
-mul-highs : tie.Need-mul-highs Inv-loop μ-loop
-mul-highs c = omega (arith, bar-fits c)
+call-requires : tie.Need-call-requires Inv-loop μ-loop
+call-requires c κs = search needs
 
-array-write-highs : tie.Need-array-write-highs Inv-loop μ-loop
-array-write-highs c = bar-fits c
+array-write-answers : tie.Need-array-write-answers Inv-loop μ-loop
+array-write-answers c = fits (c .before .before)
 
-mul-lows : tie.Need-mul-lows Inv-loop μ-loop
-mul-lows c = omega (arith, bar-fits c)
-
-array-write-lows : tie.Need-array-write-lows Inv-loop μ-loop
-array-write-lows c = bar-fits c
-
-add-bars : tie.Need-add-bars Inv-loop μ-loop
-add-bars c = omega (arith, bar-fits c)
+add-count : tie.Need-add-count Inv-loop μ-loop
+add-count c = omega (arith, fits (c .before .before))
 
 loop-less : tie.Need-loop-less Inv-loop μ-loop
-loop-less c = let h = entry-at (c .before .before .before) .here in omega (arith, h .further, h .within)
+loop-less c = let h = entry-at (c .before .before .before .before .before) .here in omega (arith, h .further, h .within)
 
 loop-again : tie.Need-loop-again Inv-loop μ-loop
 loop-again c =
-    further-bar _ _ _ _ _ _ _ _ _ (c .before .before .before .before .before .loop .inv) _ _ _ (entry-at (c .before .before .before)) _ _ (bar-at c)
+    let entry = c .before .before .before in
+    let next = entry .before .before in
+    further-call _ _ _ _ _ _ _ _ _ (next .before .before .loop .inv) _ _ _ (entry-at next) _ (call-at entry) _ _ (c .before .call .ensures)
 
-done-requires : tie.Need-done-requires Inv-loop μ-loop
-done-requires c κs = search needs
+enum-known-entry-2 : tie.Need-enum-known-entry-2 Inv-loop μ-loop
+enum-known-entry-2 c = search needs
 
-array-write-answers : tie.Need-array-write-answers Inv-loop μ-loop
-array-write-answers c = fits c
+mul-highs : tie.Need-mul-highs Inv-loop μ-loop
+mul-highs c = omega (arith, bar-fits (c .before))
 
-add-count : tie.Need-add-count Inv-loop μ-loop
-add-count c = omega (arith, fits c)
+array-write-highs : tie.Need-array-write-highs Inv-loop μ-loop
+array-write-highs c = bar-fits (c .before)
+
+mul-lows : tie.Need-mul-lows Inv-loop μ-loop
+mul-lows c = omega (arith, bar-fits (c .before))
+
+array-write-lows : tie.Need-array-write-lows Inv-loop μ-loop
+array-write-lows c = bar-fits (c .before)
+
+add-bars : tie.Need-add-bars Inv-loop μ-loop
+add-bars c = omega (arith, bar-fits (c .before))
 
 loop-less-2 : tie.Need-loop-less-2 Inv-loop μ-loop
 loop-less-2 c = let h = entry-at (c .before .before .before) .here in omega (arith, h .further, h .within)
 
 loop-again-2 : tie.Need-loop-again-2 Inv-loop μ-loop
 loop-again-2 c =
-    let call = call-at (c .before) in
-    further-call _ _ _ _ _ _ _ _ _ (c .before .before .before .before .before .loop .inv) _ _ _ (entry-at (c .before .before .before)) _ (call .1) _ _
-    (c .before .done .ensures _ (call .1))
+    let next = c .before .before .before in
+    further-bar _ _ _ _ _ _ _ _ _ (next .before .before .loop .inv) _ _ _ (entry-at next) _ _ (bar-at (c .before))
+
+enum-told : tie.Need-enum-told Inv-loop μ-loop
+enum-told c = search needs
+
+loop-less-3 : tie.Need-loop-less-3 Inv-loop μ-loop
+loop-less-3 c = absurd (never-bad c)
+
+loop-again-3 : tie.Need-loop-again-3 Inv-loop μ-loop
+loop-again-3 c = absurd (never-bad c)
 
 returns : tie.Need-returns Inv-loop μ-loop
 returns c = finished _ _ _ _ _ _ _ _ _ (c .before .loop .inv) (c .loop-test .left) (c .before .before .new .ensures)
@@ -119,16 +131,20 @@ run-spec =
     loop-holds
     next-entry-requires
     enum-known-entry
+    call-requires
+    array-write-answers
+    add-count
+    loop-less
+    loop-again
+    enum-known-entry-2
     mul-highs
     array-write-highs
     mul-lows
     array-write-lows
     add-bars
-    loop-less
-    loop-again
-    done-requires
-    array-write-answers
-    add-count
     loop-less-2
     loop-again-2
+    enum-told
+    loop-less-3
+    loop-again-3
     returns)
