@@ -44,7 +44,7 @@ use Rattle.rules.proofs.Computing.{everything}
 use Rattle.rules.proofs.Charts.{triple, zoneThird, mark}
 use Rattle.rules.proofs.ChartK.{K, barsOf, barsK}
 use Rattle.live.specs.declared.Live.{Live}
-use Rattle.live.specs.Did.{part, liveAnswer, Did}
+use Rattle.live.specs.Did.{dataOf, part, Did}
 use Rattle.laws.proofs.Tests.{none-some}
 use Rattle.laws.proofs.Lists.{all-there, all-at}
 use Rattle.promise.specs.Promise.{levelsIn, zonesIn, Result, Thirds, ThreeN, Promise}
@@ -56,7 +56,7 @@ same-taken xs n h e = take-all 600 xs (omega arith) ∙ sym (take-all n xs (omeg
 
 -- what a call does, but for its true counts: a contract over the part that counts alone
 record Untold (b : Live) (k : Call) (n : ℕ) (d : Live) : Type 0 where
-  number : n ≡ liveAnswer b k
+  number : n ≡ liveRefusal (dataOf b) k
   same : n ≢ 0 → d ≡ b
   stepped : n ≡ 0 → part d ≡ after (part b) k
 
@@ -100,8 +100,8 @@ module _ (d : Live) (size : length (d .chart .strokes) ≡ 512) (full : d .chart
       omega arith
 
 -- every later call on it is refused with 21, so that a promise about accepted calls would be empty
-lie-shuts : (d : Live) (k : Call) → liveAnswer (lie d) k ≡ 21
-unfolding lie liveAnswer liveRefusal badLive badChart overfull refuse
+lie-shuts : (d : Live) (k : Call) → liveRefusal (dataOf (lie d)) k ≡ 21
+unfolding lie liveRefusal badLive badChart overfull refuse
 lie-shuts d k = refl
 
 lie-shuts-marks : (d : Live) (q : Quotes) → thirdCall (lie d .chart) q ≡ refused 21

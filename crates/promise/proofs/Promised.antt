@@ -12,14 +12,13 @@ use Rattle.rules.specs.Answer.{rowsAnswer}
 use Rattle.rules.specs.Records.{levelsOf, Quotes}
 use Rattle.rules.specs.Zones.{overlapZones, membersOf}
 use Rattle.rules.specs.Marks.{thirdMarks, nMarks}
-use Rattle.rules.specs.Refusals.{overfull, badLevels, badChart, badLive, zonesRefusal}
+use Rattle.rules.specs.Refusals.{badChart, zonesRefusal}
 use Rattle.rules.specs.Calls.{thirdCall, nCall}
 use Rattle.rules.specs.Machine.{Call, zones}
 use Rattle.rules.specs.Claims.{OneZone, Earlier, Apart}
-use Rattle.laws.proofs.Tests.{or-i}
 use Rattle.laws.proofs.Lists.{All, all-in}
 use Rattle.laws.proofs.Ordered.{InOrder, not-bad, not-broken}
-use Rattle.laws.proofs.Machine.{not-21-ordered, not-21-counts}
+use Rattle.laws.proofs.Machine.{not-21-ordered, not-21-good}
 use Rattle.laws.proofs.Zones.{zones-edges, zone-opposes, one-zone, zones-members, never-11}
 use Rattle.laws.proofs.Thirds.{thirds-beyond}
 use Rattle.laws.proofs.Grounds.{thirds-traced}
@@ -28,8 +27,9 @@ use Rattle.laws.proofs.Earlier.{marks-earlier}
 use Rattle.laws.proofs.Quoted.{marks-quoted}
 use Rattle.laws.proofs.Stems.{marks-stem}
 use Rattle.live.specs.declared.Live.{Live}
+use Rattle.live.specs.Did.{dataOf}
 use Rattle.live.specs.Sequence.{AsMachine}
-use Rattle.live.proofs.Chained.{sequence}
+use Rattle.live.proofs.Chained.{sequence, levels-are, zones-are}
 use Rattle.promise.specs.Promise.{levelsIn, zonesIn, Thirds, ThreeN, Promise, The-promise}
 use Rattle.promise.proofs.Results.{result, third-is, n-refusal, n-is}
 
@@ -74,21 +74,16 @@ module _ (c : Chart) (good : badChart c ≡ false) (o : InOrder (levelsOf c)) wh
 
 -- ---- the chart that a sequence leaves
 
-not-21 : (c : Chart) (places : List Zone) (n : ℕ) → badLive c places n ≡ false → badChart c ≡ false
-unfolding badChart
-not-21 c places n h =
-    or-i (overfull c) (badLevels (levelsOf c)) (not-21-counts c places n h .0) (not-bad (levelsOf c) (not-21-ordered c places n h))
-
 left-zones : (ks : List Call) (ns : List ℕ) (d : Live) → AsMachine ks ns d → zonesIn d ≡ overlapZones (levelsIn d)
 unfolding zones
-left-zones ks ns d a = a .zones-are ∙ ap overlapZones (sym (a .levels-are))
+left-zones ks ns d a = zones-are ks ns d a ∙ ap overlapZones (sym (levels-are ks ns d a))
 
 -- a chart that is as the machine's: every clause
 pub left : (ks : List Call) (ns : List ℕ) (d : Live) → AsMachine ks ns d → Promise ks ns d
 left ks ns d a =
     let l = levelsIn d in
-    let o = not-21-ordered (d .chart) (d .zones) (d .«zone_count») (a .in-order) in
-    let good = not-21 (d .chart) (d .zones) (d .«zone_count») (a .in-order) in
+    let o = not-21-ordered (dataOf d) (a .in-order) in
+    let good = not-21-good (dataOf d) (a .in-order) in
     let z = left-zones ks ns d a in
     record {
       as-machine = a;

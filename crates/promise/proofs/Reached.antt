@@ -30,12 +30,13 @@ use Rattle.rules.specs.Machine.{
   deriveBigs,
   deriveSuperiors,
   empty,
+  zones,
   refusal,
   step,
   run,
   answers,
 }
-use Rattle.rules.specs.Live.{View, view, after}
+use Rattle.rules.specs.Live.{view, seen, liveRefusal, after}
 use Rattle.rules.proofs.Computing.{everything}
 use Rattle.rules.proofs.Charts.{
   price,
@@ -56,7 +57,7 @@ use Rattle.laws.proofs.Zones.{zones-256}
 use Rattle.laws.proofs.Machine.{step-ordered, run-ordered, live-is}
 use Rattle.laws.proofs.Answers.{given-rows, refused-rows}
 use Rattle.live.specs.declared.Live.{Live}
-use Rattle.live.specs.Did.{part, liveAnswer, TrueCounts, Did, Nothing}
+use Rattle.live.specs.Did.{dataOf, part, TrueCounts, Did, Nothing}
 use Rattle.live.specs.Sequence.{Chain, done, next}
 use Rattle.promise.specs.Promise.{levelsIn, Thirds, ThreeN, Promise}
 use Rattle.promise.proofs.Promised.{promise}
@@ -83,9 +84,6 @@ liveOf m =
       count = m .count;
     }
 
-abbrev seen : Machine → View
-seen m = record { levels = m .levels; zones = overlapZones (m .levels); count = m .count }
-
 module _ (m : Machine) where
   levels-same : levelsOf (liveOf m .chart) ≡ m .levels
   unfolding levelsOf liveOf
@@ -98,7 +96,7 @@ module _ (m : Machine) where
       )
 
   part-same : part (liveOf m) ≡ seen m
-  unfolding part view liveOf
+  unfolding part view seen zones liveOf
   part-same = rw (levels-same, take-length (overlapZones (m .levels)))
 
   true-counts : TrueCounts (liveOf m)
@@ -123,10 +121,10 @@ module _ (m : Machine) where
           le-ltb 256 (length (m .levels .superiors)) (o .superiors .fit),
         )
 
-    answer-is : (k : Call) → liveAnswer (liveOf m) k ≡ refusal (m .levels) k
-    unfolding liveAnswer liveOf
+    answer-is : (k : Call) → liveRefusal (dataOf (liveOf m)) k ≡ refusal (m .levels) k
+    unfolding liveOf
     answer-is k =
-        live-is (liveOf m .chart) (overlapZones (m .levels)) (length (overlapZones (m .levels))) fits (subst InOrder (sym levels-same) o)
+        live-is (dataOf (liveOf m)) fits (subst InOrder (sym levels-same) o)
         (zones-256 (m .levels) (not-broken (m .levels) o) (o .bigs .fit))
         (take-length (overlapZones (m .levels)) ∙ ap overlapZones (sym levels-same)) k
         ∙ ap (λ (c : Levels). refusal c k) levels-same
@@ -134,7 +132,7 @@ module _ (m : Machine) where
 -- ---- every list of calls has its chain
 
 did : (m : Machine) → InOrder (m .levels) → (k : Call) → Did (liveOf m) k (refusal (m .levels) k) (liveOf (step m k))
-unfolding step after
+unfolding step after seen zones
 did m o k =
     record {
       number = sym (answer-is m o k);

@@ -22,7 +22,7 @@ use Rattle.rules.specs.Refusals.{
   badChart,
 }
 use Rattle.rules.specs.Calls.{onChart, thirdCall, nCall}
-use Rattle.laws.proofs.Answers.{rows-given, rows-refused}
+use Rattle.laws.proofs.Answers.{rows-given, rows-number}
 use Rattle.promise.specs.Promise.{Result}
 
 -- ---- a struct that stands for an answer
@@ -39,14 +39,10 @@ module _ {A : Type 0} (count : ℕ) (rows : List A) (r : ℕ) (l : List A) where
       go false f zero g = let z : _≡_ {A = ℕ} 0 1 = cc in absurd (omega arith)
       go false f (suc k) g = let z : 0 ≡ suc k = cc in absurd (omega arith)
 
-  rows-number : (n : ℕ) → rowsAnswer n count rows ≡ answered r l → n ≡ r
-  rows-number zero e = sym (rows-given count rows r l e .accepted)
-  rows-number (suc n) e = sym (rows-refused count rows r l (suc n) (λ (z : suc n ≡ 0). omega arith) e)
-
   pub result : (n : ℕ) → rowsAnswer n count rows ≡ answered r l → Result r l n count rows
   result n e =
       record {
-        number-is = rows-number n e;
+        number-is = rows-number count rows r l n e;
         no-rows = λ h. rows-none n h e;
         true-count = λ h. omega (arith, rows-given count rows r l (ap (λ (x : ℕ). rowsAnswer x count rows) (sym h) ∙ e) .few);
         rows-are = λ h. rows-given count rows r l (ap (λ (x : ℕ). rowsAnswer x count rows) (sym h) ∙ e) .same;
