@@ -1,4 +1,2 @@
 -- Laws that the proofs cite. Each function has its proof in the folder of its name.
-pub mod Written
-pub mod Digits
 pub mod Lines

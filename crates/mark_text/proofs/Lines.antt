@@ -4,7 +4,7 @@ use native.Mathlib.Omega.{arith}
 use mathlib.Core.Path.{_≡_, sym, _∙_}
 use mathlib.Core.Bool.{Bool, true, false, not, cond}
 use mathlib.Core.List.{List, [], _∷_, _++_, append-assoc, append-nil}
-use lib.ListN.{length, getD, take, drop}
+use lib.ListN.{length, getD, take, drop, replicate, length-replicate}
 use lib.Ieee.{binary64, toBits}
 use borrow.Author.Tests.{not-false}
 use Rattle.chart.specs.declared.NMark.{NMark}
@@ -13,8 +13,15 @@ use Rattle.rules.specs.Lists.{any, each}
 use Rattle.rules.specs.Text.{ascii, decimal, hex, markLine, marksText, refusedLine}
 use Rattle.laws.proofs.Lists.{any-at}
 use Rattle.laws.proofs.Arrays.{at-in, left-more, left-none}
-use Rattle.mark_text.proofs.Written.{Part}
-use Rattle.mark_text.specs.Puts.{Puts}
+use Rattle.text.proofs.Written.{Part}
+use Rattle.text.specs.Puts.{Puts}
+
+-- a buffer into which nothing is put yet
+abbrev pub fresh : List ℕ
+fresh = replicate 24576 0
+
+pub length-fresh : length fresh ≡ 24576
+length-fresh = length-replicate {A = ℕ} 24576 0
 
 -- ---- a mark's line, up to each of its parts
 

@@ -8,8 +8,7 @@ use lib.ListN.{length, take, drop}
 use borrow.Author.Needs.{needs}
 use Rattle.rules.specs.Lists.{each}
 use Rattle.rules.specs.Text.{ascii, markLine, marksText}
-use Rattle.mark_text.proofs.Written.{length-fresh}
-use Rattle.mark_text.proofs.Lines.{header, price-next, line-next, line-none}
+use Rattle.mark_text.proofs.Lines.{length-fresh, header, price-next, line-next, line-none}
 use Rattle.mark_text.proofs.marks_text.Statement.{statement}
 use Rattle.mark_text.proofs.marks_text.Tie as tie
 
@@ -23,15 +22,6 @@ abbrev μ-loop : tie.MeasureT-loop
 long : (c : tie.Start Inv-loop μ-loop) → c .args .n ≤ length (c .args .t1)
 long c = omega arith
 
-slice-aggregate-put-word : tie.Need-slice-aggregate-put-word Inv-loop μ-loop
-slice-aggregate-put-word c = search needs
-
-slice-aggregate-put-word-2 : tie.Need-slice-aggregate-put-word-2 Inv-loop μ-loop
-slice-aggregate-put-word-2 c = search needs
-
-put-word-requires : tie.Need-put-word-requires Inv-loop μ-loop
-put-word-requires c κs = search needs
-
 loop-holds : tie.Need-loop-holds Inv-loop μ-loop
 unfolding ascii
 loop-holds c =
@@ -40,30 +30,12 @@ loop-holds c =
     let (few, text) = header (take (start .args .n) (start .args .t1)) put in
     (omega arith, put .long ∙ length-fresh, omega arith, text)
 
-cast-m : tie.Need-cast-m Inv-loop μ-loop
-cast-m c = search needs
-
-mul-m : tie.Need-mul-m Inv-loop μ-loop
-mul-m c = search needs
-
-array-copy-out-m : tie.Need-array-copy-out-m Inv-loop μ-loop
-array-copy-out-m c = search needs
-
-slice-aggregate-put-line : tie.Need-slice-aggregate-put-line Inv-loop μ-loop
-slice-aggregate-put-line c = search needs
-
 put-line-requires : tie.Need-put-line-requires Inv-loop μ-loop
 put-line-requires c κs =
     let turn = c .before .before in
     let head = turn .before in
     let start = head .before .before .before .before .before in
     (price-next _ _ _ (long start) _ (turn .loop-test .taken) (start .pre .1), omega arith)
-
-add-i : tie.Need-add-i Inv-loop μ-loop
-add-i c = search needs
-
-loop-less : tie.Need-loop-less Inv-loop μ-loop
-loop-less c = search needs
 
 loop-again : tie.Need-loop-again Inv-loop μ-loop
 loop-again c =
@@ -85,19 +57,5 @@ returns c =
 pub marks-text-spec : {M : Type 1} → statement M
 marks-text-spec =
     tie.close
-    (tie.spec
-    Inv-loop
-    μ-loop
-    slice-aggregate-put-word
-    slice-aggregate-put-word-2
-    put-word-requires
-    loop-holds
-    cast-m
-    mul-m
-    array-copy-out-m
-    slice-aggregate-put-line
-    put-line-requires
-    add-i
-    loop-less
-    loop-again
-    returns)
+    (tie.spec Inv-loop μ-loop (search needs) (search needs) (search needs) loop-holds (search needs) (search needs) (search needs) (search needs)
+    put-line-requires (search needs) (search needs) loop-again returns)

@@ -3,8 +3,8 @@ use borrow.Author.Needs.{needs}
 use Prim.Native.Nat.{_<_, _^_}
 use native.Mathlib.Nat.{le-of-eq}
 use native.Mathlib.Omega.{arith}
-use Rattle.mark_text.proofs.Written.{Part, part-on, part-room}
-use Rattle.mark_text.proofs.Digits.{decimal-length, number-length, hex-length}
+use Rattle.text.proofs.Written.{Part, part-on, part-room}
+use Rattle.text.proofs.Digits.{decimal-length, number-length, hex-length}
 use Rattle.mark_text.proofs.Lines.{side, toOrder, toBar, toPrice, line-put}
 use Rattle.mark_text.proofs.put_line.Statement.{statement}
 use Rattle.mark_text.proofs.put_line.Tie as tie
@@ -58,27 +58,15 @@ price-put c =
     let bits = c .before .bits-of-price .ensures in
     part-on 16 _ _ (bar-put (c .before .before .before .before .before)) (rw bits at (c .put-hex .ensures)) (le-of-eq (hex-length 16 _))
 
-put-side-requires : tie.Need-put-side-requires
-put-side-requires c κs = search needs
-
-cast-put-number : tie.Need-cast-put-number
-cast-put-number c = search needs
-
 put-number-requires : tie.Need-put-number-requires
 put-number-requires c κs =
     let done = c .before .before .before .before in
     omega (arith, part-room 34 _ (side-put done) (entry-1 done .pre .1), decimal-length 9 _ (order-fits c))
 
-cast-put-number-2 : tie.Need-cast-put-number-2
-cast-put-number-2 c = search needs
-
 put-number-requires-2 : tie.Need-put-number-requires-2
 put-number-requires-2 c κs =
     let done = c .before .before .before .before in
     omega (arith, part-room 23 _ (order-put done) (entry-2 done .pre .1), decimal-length 4 _ (bar-fits c))
-
-bits-of-price-requires : tie.Need-bits-of-price-requires
-bits-of-price-requires c κs = search needs
 
 put-hex-requires : tie.Need-put-hex-requires
 put-hex-requires c κs =
@@ -90,9 +78,6 @@ put-requires c κs =
     let done = c .before .before .before in
     omega (arith, part-room 1 _ (price-put done) (entry-4 done .pre .1))
 
-same-length : tie.Need-same-length
-same-length c = search needs
-
 returns : tie.Need-returns
 returns c =
     let put = c .before .before in
@@ -101,14 +86,5 @@ returns c =
 pub put-line-spec : {M : Type 1} → statement M
 put-line-spec =
     tie.close
-    (tie.spec
-    put-side-requires
-    cast-put-number
-    put-number-requires
-    cast-put-number-2
-    put-number-requires-2
-    bits-of-price-requires
-    put-hex-requires
-    put-requires
-    same-length
-    returns)
+    (tie.spec (search needs) (search needs) put-number-requires (search needs) put-number-requires-2 (λ c κs. search needs) put-hex-requires
+    put-requires (search needs) returns)

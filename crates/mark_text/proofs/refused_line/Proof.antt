@@ -2,9 +2,9 @@
 use borrow.Author.Needs.{needs}
 use native.Mathlib.Omega.{arith}
 use Rattle.rules.specs.Text.{ascii}
-use Rattle.mark_text.proofs.Written.{fresh, length-fresh, Part, part-on, part-room}
-use Rattle.mark_text.proofs.Digits.{decimal-length, number-length}
-use Rattle.mark_text.proofs.Lines.{toNumber, toWord, refused-put}
+use Rattle.text.proofs.Written.{Part, part-on, part-room}
+use Rattle.text.proofs.Digits.{decimal-length, number-length}
+use Rattle.mark_text.proofs.Lines.{fresh, length-fresh, toNumber, toWord, refused-put}
 use Rattle.mark_text.proofs.refused_line.Statement.{statement}
 use Rattle.mark_text.proofs.refused_line.Tie as tie
 
@@ -33,34 +33,13 @@ at-put :
 unfolding ascii
 at-put c = part-on 4 _ _ (number-put (c .before .before .before .before)) (c .put-word2 .ensures) (omega arith)
 
-slice-aggregate-put-word : tie.Need-slice-aggregate-put-word
-slice-aggregate-put-word c = search needs
-
-slice-aggregate-put-word-2 : tie.Need-slice-aggregate-put-word-2
-slice-aggregate-put-word-2 c = search needs
-
-put-word-requires : tie.Need-put-word-requires
-put-word-requires c κs = search needs
-
-slice-aggregate-put-decimal : tie.Need-slice-aggregate-put-decimal
-slice-aggregate-put-decimal c = search needs
-
 put-decimal-requires : tie.Need-put-decimal-requires
 put-decimal-requires c κs =
     let done = c .before .before in
     omega (arith, part-room 28 _ (word-put done) (omega (arith, length-fresh)), decimal-length 2 (entry-1 done .before .args .number) (omega arith))
 
-slice-aggregate-put-word-3 : tie.Need-slice-aggregate-put-word-3
-slice-aggregate-put-word-3 c = search needs
-
-slice-aggregate-put-word-4 : tie.Need-slice-aggregate-put-word-4
-slice-aggregate-put-word-4 c = search needs
-
 put-word-requires-2 : tie.Need-put-word-requires-2
 put-word-requires-2 c κs = part-room 4 _ (number-put (c .before .before .before)) (omega (arith, length-fresh))
-
-slice-aggregate-put-number : tie.Need-slice-aggregate-put-number
-slice-aggregate-put-number c = search needs
 
 put-number-requires : tie.Need-put-number-requires
 put-number-requires c κs =
@@ -74,15 +53,5 @@ returns c =
 pub refused-line-spec : {M : Type 1} → statement M
 refused-line-spec =
     tie.close
-    (tie.spec
-    slice-aggregate-put-word
-    slice-aggregate-put-word-2
-    put-word-requires
-    slice-aggregate-put-decimal
-    put-decimal-requires
-    slice-aggregate-put-word-3
-    slice-aggregate-put-word-4
-    put-word-requires-2
-    slice-aggregate-put-number
-    put-number-requires
-    returns)
+    (tie.spec (search needs) (search needs) (search needs) (search needs) put-decimal-requires (search needs) (search needs) put-word-requires-2
+    (search needs) put-number-requires returns)

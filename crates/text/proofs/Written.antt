@@ -1,25 +1,15 @@
 -- A buffer into which bytes are put, one part behind the other. Assumes nothing.
 use Prim.Native.Nat.{ℕ, _+_, _-_, _≤_, _<_}
 use native.Mathlib.Omega.{arith}
-use mathlib.Core.Path.{_≡_, refl, sym, _∙_}
-use mathlib.Core.List.{List, [], _∷_, _++_, append-assoc, append-nil}
-use lib.ListN.{length, take, drop, set, replicate, length-append, length-take, length-drop, length-set, length-replicate}
+use mathlib.Core.Path.{_≡_, refl, _∙_}
+use mathlib.Core.List.{List, [], _∷_, _++_, append-assoc}
+use lib.ListN.{length, take, drop, set, length-append, length-take, length-drop, length-set}
 use lib.Seq.{length-take-le, take-length, take-at}
 use borrow.Rule.Slice.PartMut.{putMid}
 use Rattle.laws.proofs.Arrays.{one-more}
-use Rattle.mark_text.specs.Puts.{Puts}
+use Rattle.text.specs.Puts.{Puts}
 
--- a buffer into which nothing is put yet
-abbrev pub fresh : List ℕ
-fresh = replicate 24576 0
-
-pub length-fresh : length fresh ≡ 24576
-length-fresh = length-replicate {A = ℕ} 24576 0
-
--- no bytes, and one
-pub put-none : (old : List ℕ) (at : ℕ) → Puts old at [] old at
-put-none old at = record { text = sym (append-nil (take at old)); place = omega arith; long = refl }
-
+-- one byte
 pub put-one : (old : List ℕ) (at b : ℕ) → at < length old → Puts old at (b ∷ []) (set old at b) (at + 1)
 put-one old at b h = record { text = one-more old at b h; place = refl; long = length-set old at b }
 
@@ -38,18 +28,7 @@ put-part old part word at n h e p =
           rw (e, p, take-length word, append-assoc word rest behind, ← append-assoc (take at old) word (rest ++ behind))
           (take-at (take at old ++ word) (rest ++ behind) (at + length word) size);
       place = omega arith;
-      long =
-          rw (p, take-length word)
-          (omega (
-            arith,
-            length-append (take at old) ((word ++ rest) ++ behind),
-            length-append (word ++ rest) behind,
-            length-append word rest,
-            length-drop (length word) (take (length old - at) (drop at old)),
-            length-take (length old - at) (drop at old),
-            length-drop at old,
-            length-drop (length old - at) (drop at old),
-          ));
+      long = rw (p, take-length word) (simp (length-append, length-take, length-drop) (omega arith));
     }
 
 -- some bytes, and then some behind them

@@ -1,0 +1,10 @@
+-- `text::digit` meets its contract. Assumes nothing.
+use borrow.Author.Needs.{needs}
+use Rattle.text.proofs.Digits.{digit-below, digit-above}
+use Rattle.text.proofs.digit.Statement.{statement}
+use Rattle.text.proofs.digit.Tie as tie
+
+pub digit-spec : {M : Type 1} → statement M
+digit-spec =
+    tie.close
+    (tie.spec (search needs) (search needs) (search needs) (search needs) (λ c. digit-below _ (c .if1 .taken)) (λ c. digit-above _ (c .if1 .left)))
