@@ -1,4 +1,5 @@
-// The rows of `report`, some of them lines of `replay` too, written to standard output. Of printing only safety is proved.
+// The rows of `report`, some of them lines of `replay` too, written to standard output. Of printing only safety is proved, and a price's
+// digits.
 use chart::Class;
 use chart::EndPoint;
 use chart::FirstMark;
@@ -8,38 +9,23 @@ use chart::NMark;
 use chart::Range;
 use chart::ThirdMark;
 use chart::Zone;
+ghost use mathlib.Core.Path.{_≡_};
+ghost use mathlib.Core.Bool.{cond};
 ghost use Prim.Native.Nat.{_≤_};
+ghost use lib.Ieee.{isNan, toBits, binary64};
+ghost use lib.ListN.{replicate};
+ghost use Rattle.rules.specs.Text.{hex};
 
-// The lowest four bits of n, as an upper-case hexadecimal digit.
-fn digit(n: u64) -> u8 {
-    let d = n % 16;
-    if d < 10 { 48 + d as u8 } else { 55 + d as u8 }
-}
-
-// A price's bits as 16 digits; a NaN's as those of 0.
-pub fn hex_of(x: f64) -> [u8; 16] {
+// A price's bits as 16 hexadecimal digits; of a NaN, whose bits are not defined, 16 zeros.
+pub fn hex_of(x: f64) -> [u8; 16]
+    ensures { λ r. ⌜ r ≡ cond (isNan x) (replicate 16 0x30) (hex 16 (toBits binary64 x)) ⌝ }
+{
+    let mut digits = [48; 16];
     if x != x {
-        return [48; 16];
+        return digits;
     }
-    let n = f64::to_bits(x);
-    [
-        digit(n >> 60),
-        digit(n >> 56),
-        digit(n >> 52),
-        digit(n >> 48),
-        digit(n >> 44),
-        digit(n >> 40),
-        digit(n >> 36),
-        digit(n >> 32),
-        digit(n >> 28),
-        digit(n >> 24),
-        digit(n >> 20),
-        digit(n >> 16),
-        digit(n >> 12),
-        digit(n >> 8),
-        digit(n >> 4),
-        digit(n),
-    ]
+    text::put_hex(&mut digits, 0, 16, f64::to_bits(x));
+    digits
 }
 
 // A price, or a number, with a space behind it.

@@ -1,10 +1,10 @@
 -- A buffer into which bytes are put, one part behind the other. Assumes nothing.
 use Prim.Native.Nat.{ℕ, _+_, _-_, _≤_, _<_}
 use native.Mathlib.Omega.{arith}
-use mathlib.Core.Path.{_≡_, refl, _∙_}
+use mathlib.Core.Path.{_≡_, refl, sym, _∙_}
 use mathlib.Core.List.{List, [], _∷_, _++_, append-assoc}
 use lib.ListN.{length, take, drop, set, length-append, length-take, length-drop, length-set}
-use lib.Seq.{length-take-le, take-length, take-at}
+use lib.Seq.{length-take-le, take-all, take-length, take-at}
 use borrow.Rule.Slice.PartMut.{putMid}
 use Rattle.laws.proofs.Arrays.{one-more}
 use Rattle.text.specs.Puts.{Puts}
@@ -41,6 +41,10 @@ put-on {old} {at = at} first more p q =
       place = omega (arith, p .place, q .place, length-append first more);
       long = q .long ∙ p .long;
     }
+
+-- bytes that fill the buffer
+pub put-whole : {old new : List ℕ} {end : ℕ} (bytes : List ℕ) → length bytes ≡ length old → Puts old 0 bytes new end → new ≡ bytes
+put-whole {new} {end} bytes e p = sym (take-all end new (omega (arith, p .place, p .long))) ∙ p .text
 
 -- ---- a text of bounded length, one part behind the other
 

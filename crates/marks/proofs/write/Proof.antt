@@ -6,17 +6,8 @@ use borrow.Author.Needs.{needs}
 use Rattle.marks.proofs.write.Statement.{statement}
 use Rattle.marks.proofs.write.Tie as tie
 
-array-share-prefix-bytes : tie.Need-array-share-prefix-bytes
-array-share-prefix-bytes c = search needs
-
 slice-aggregate-write-all : tie.Need-slice-aggregate-write-all
 slice-aggregate-write-all c = sym (length-take-le _ _ (omega arith))
 
-write-all-requires : tie.Need-write-all-requires
-write-all-requires c κs = search needs
-
-returns : tie.Need-returns
-returns c = search needs
-
 pub write-spec : {M : Type 1} → statement M
-write-spec = tie.close (tie.spec array-share-prefix-bytes slice-aggregate-write-all write-all-requires returns)
+write-spec = tie.close (tie.spec (search needs) slice-aggregate-write-all (search needs) (search needs))

@@ -18,12 +18,6 @@ quotes c = record { highs = c .args .highs .now; lows = c .args .lows .now }
 rows-long : (c : tie.After-bigseg-3n-marks-all-zhongshu) → length (c .bigseg-3n-marks-all-zhongshu .result .rows) ≡ 512
 rows-long c = search (needs, length-via)
 
-bigseg-3n-marks-all-zhongshu-requires : tie.Need-bigseg-3n-marks-all-zhongshu-requires
-bigseg-3n-marks-all-zhongshu-requires c κs = search needs
-
-refused-line-requires : tie.Need-refused-line-requires
-refused-line-requires c κs = search needs
-
 returns : tie.Need-returns
 returns c =
     let called = c .before .before .before in
@@ -50,11 +44,4 @@ returns-2 c =
     )
 
 pub marks-of-chart-spec : {M : Type 1} → statement M
-marks-of-chart-spec =
-    tie.close
-    (tie.spec
-    bigseg-3n-marks-all-zhongshu-requires
-    refused-line-requires
-    returns
-    marks-text-requires
-    returns-2)
+marks-of-chart-spec = tie.close (tie.spec (search needs) (search needs) returns marks-text-requires returns-2)

@@ -14,18 +14,6 @@ use Rattle.marks_file.proofs.marks_of_file.Tie as tie
 read : (c : tie.After-read-chart) → loaded (c .read-chart .result .number) (c .read-chart .result .place) (c .read-chart .result .chart) (c .read-chart .result .bars) (record { highs = c .read-chart .last .1 .0; lows = c .read-chart .last .1 .1 .0 }) ≡ readFile 2048 (c .before .before .before .before .args .file .now)
 read c = c .read-chart .ensures .0 ∙ lent-read _ _ refl refl
 
-slice-aggregate-read-chart : tie.Need-slice-aggregate-read-chart
-slice-aggregate-read-chart c = search needs
-
-slice-aggregate-read-chart-2 : tie.Need-slice-aggregate-read-chart-2
-slice-aggregate-read-chart-2 c = search needs
-
-read-chart-requires : tie.Need-read-chart-requires
-read-chart-requires c κs = search needs
-
-refused-line-requires : tie.Need-refused-line-requires
-refused-line-requires c κs = search needs
-
 returns : tie.Need-returns
 returns c =
     let r = read (c .before .before .before .before .before) in
@@ -60,15 +48,5 @@ returns-2 c =
 pub marks-of-file-spec : {M : Type 1} → statement M
 marks-of-file-spec =
     tie.close
-    (tie.spec
-    slice-aggregate-read-chart
-    slice-aggregate-read-chart-2
-    read-chart-requires
-    refused-line-requires
-    returns
-    array-share-prefix-highs
-    slice-aggregate-marks-of-chart
-    array-share-prefix-lows
-    slice-aggregate-marks-of-chart-2
-    marks-of-chart-requires
-    returns-2)
+    (tie.spec (search needs) (search needs) (search needs) (search needs) returns array-share-prefix-highs slice-aggregate-marks-of-chart
+    array-share-prefix-lows slice-aggregate-marks-of-chart-2 marks-of-chart-requires returns-2)
