@@ -107,8 +107,9 @@ pub fn print_big(range: Range, end_point: EndPoint) {
     io::write_all(1, b"\n");
 }
 
-// A row of the section ZONES.
-pub fn print_zone(z: Zone) {
+// A row of the section ZONES, behind a word: none in `report`, what the line is in `replay`.
+fn print_zone(word: &[u8], z: Zone) {
+    io::write_all(1, word);
     print_number(z.sup_idx);
     print_number(z.start_bar);
     print_number(z.end_bar);
@@ -121,9 +122,9 @@ pub fn print_zone(z: Zone) {
     io::write_all(1, b"\n");
 }
 
-pub fn print_zones(rows: [Zone; 256], count: u16) {
+pub fn print_zones(word: &[u8], rows: [Zone; 256], count: u16) {
     for i in 0..shown(count, 256) {
-        print_zone(rows[i]);
+        print_zone(word, rows[i]);
     }
 }
 
@@ -151,8 +152,9 @@ fn print_side(buy: bool) {
     }
 }
 
-// A row of the section THIRD.
-pub fn print_third(m: ThirdMark) {
+// A row of the section THIRD, behind a word.
+fn print_third(word: &[u8], m: ThirdMark) {
+    io::write_all(1, word);
     print_side(m.is_buy);
     print_number(m.bar_index);
     print_price(m.price);
@@ -160,14 +162,15 @@ pub fn print_third(m: ThirdMark) {
     print_ground(ground);
 }
 
-pub fn print_thirds(rows: [ThirdMark; 512], count: u16) {
+pub fn print_thirds(word: &[u8], rows: [ThirdMark; 512], count: u16) {
     for i in 0..shown(count, 512) {
-        print_third(rows[i]);
+        print_third(word, rows[i]);
     }
 }
 
-// A row of the section THREEN.
-pub fn print_threen(m: NMark) {
+// A row of the section THREEN, behind a word.
+fn print_threen(word: &[u8], m: NMark) {
+    io::write_all(1, word);
     print_side(m.is_buy);
     io::print_decimal(1, m.order as u64);
     io::write_all(1, b" ");
@@ -176,9 +179,9 @@ pub fn print_threen(m: NMark) {
     io::write_all(1, b"\n");
 }
 
-pub fn print_threens(rows: [NMark; 512], count: u16) {
+pub fn print_threens(word: &[u8], rows: [NMark; 512], count: u16) {
     for i in 0..shown(count, 512) {
-        print_threen(rows[i]);
+        print_threen(word, rows[i]);
     }
 }
 

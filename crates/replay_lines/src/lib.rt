@@ -1,11 +1,8 @@
 // What `replay` prints of a log: an answer for each call, then the chart, and where the log has bars the marks over them. Of printing only
 // safety is proved; answers, chart and marks come from the proved replay.
 use chart::Chart;
-use chart::NMark;
 use chart::Stroke;
-use chart::ThirdMark;
 use chart::Triple;
-use chart::Zone;
 use live::Live;
 use mark_rows::NRows;
 use third::ThirdRows;
@@ -60,17 +57,6 @@ fn print_triples(name: &[u8], rows: [Triple; 256], count: u16) {
     }
 }
 
-fn print_zone(z: Zone) {
-    io::write_all(1, b"zone ");
-    printing::print_zone(z);
-}
-
-fn print_zones(rows: [Zone; 256], count: u16) {
-    for i in 0..printing::shown(count, 256) {
-        print_zone(rows[i]);
-    }
-}
-
 fn print_chart(chart: Chart) {
     let strokes = chart.strokes;
     print_strokes(strokes, chart.stroke_count);
@@ -90,7 +76,7 @@ fn print_live(b: Live) {
     let chart = b.chart;
     print_chart(chart);
     let zones = b.zones;
-    print_zones(zones, b.zone_count);
+    printing::print_zones(b"zone ", zones, b.zone_count);
 }
 
 // The line of a mark call that is refused.
@@ -101,35 +87,13 @@ fn print_refused(call: &[u8], number: u8) {
     io::write_all(1, b"\n");
 }
 
-fn print_third(m: ThirdMark) {
-    io::write_all(1, b"third ");
-    printing::print_third(m);
-}
-
-fn print_thirds(rows: [ThirdMark; 512], count: u16) {
-    for i in 0..printing::shown(count, 512) {
-        print_third(rows[i]);
-    }
-}
-
 fn print_third_answer(found: ThirdRows) {
     if found.number != 0 {
         print_refused(b"third ", found.number);
         return;
     }
     let rows = found.rows;
-    print_thirds(rows, found.count);
-}
-
-fn print_threen(m: NMark) {
-    io::write_all(1, b"threen ");
-    printing::print_threen(m);
-}
-
-fn print_threens(rows: [NMark; 512], count: u16) {
-    for i in 0..printing::shown(count, 512) {
-        print_threen(rows[i]);
-    }
+    printing::print_thirds(b"third ", rows, found.count);
 }
 
 fn print_threen_answer(found: NRows) {
@@ -138,7 +102,7 @@ fn print_threen_answer(found: NRows) {
         return;
     }
     let rows = found.rows;
-    print_threens(rows, found.count);
+    printing::print_threens(b"threen ", rows, found.count);
 }
 
 fn print_bad(place: usize) {

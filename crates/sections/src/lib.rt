@@ -33,7 +33,7 @@ fn print_zones(chart: Chart) {
     let found = zones::detect_bigseg_zhongshus_by_overlap(chart);
     printing::print_head(b"ZONES", found.number, found.count);
     let rows = found.rows;
-    printing::print_zones(rows, found.count);
+    printing::print_zones(b"", rows, found.count);
 }
 
 // Third marks, over the bars of the file.
@@ -41,7 +41,7 @@ fn print_thirds(chart: Chart, highs: &[f64], lows: &[f64]) {
     let found = third::bigseg_third_marks_all_zhongshu(chart, highs, lows);
     printing::print_head(b"THIRD", found.number, found.count);
     let rows = found.rows;
-    printing::print_thirds(rows, found.count);
+    printing::print_thirds(b"", rows, found.count);
 }
 
 // 3+N marks, over the bars of the file.
@@ -49,7 +49,7 @@ fn print_threens(chart: Chart, highs: &[f64], lows: &[f64]) {
     let found = three_n::bigseg_3n_marks_all_zhongshu(chart, highs, lows);
     printing::print_head(b"THREEN", found.number, found.count);
     let rows = found.rows;
-    printing::print_threens(rows, found.count);
+    printing::print_threens(b"", rows, found.count);
 }
 
 fn print_labels(chart: Chart) {
