@@ -13,7 +13,6 @@ use Rattle.rules.specs.Lists.{any, each}
 use Rattle.rules.specs.Text.{ascii, decimal, hex, markLine, marksText, refusedLine}
 use Rattle.laws.proofs.Lists.{any-at}
 use Rattle.laws.proofs.Arrays.{at-in, left-more, left-none}
-use Rattle.text.proofs.Written.{Part}
 use Rattle.text.specs.Puts.{Puts}
 
 -- a buffer into which nothing is put yet
@@ -23,28 +22,20 @@ fresh = replicate 24576 0
 pub length-fresh : length fresh ≡ 24576
 length-fresh = length-replicate {A = ℕ} 24576 0
 
--- ---- a mark's line, up to each of its parts
+-- ---- a mark's line, of its parts
 
 module _ (m : NMark) where
-  abbrev pub side : List ℕ
-  side = cond (m .«is_buy») (ascii "buy ") (ascii "sell ")
+  abbrev parts : List ℕ
+  parts =
+      (((cond (m .«is_buy») (ascii "buy ") (ascii "sell ") ++ (decimal (m .order) ++ (32 ∷ []))) ++ (decimal (m .«bar_index») ++ (32 ∷ [])))
+      ++ hex 16 (toBits binary64 (m .price))) ++ (10 ∷ [])
 
-  abbrev pub toOrder : List ℕ
-  toOrder = side ++ (decimal (m .order) ++ (32 ∷ []))
-
-  abbrev pub toBar : List ℕ
-  toBar = toOrder ++ (decimal (m .«bar_index») ++ (32 ∷ []))
-
-  abbrev pub toPrice : List ℕ
-  toPrice = toBar ++ hex 16 (toBits binary64 (m .price))
-
-  line-is : toPrice ++ (10 ∷ []) ≡ markLine m
+  line-is : parts ≡ markLine m
   unfolding markLine ascii
   line-is = simp append-assoc
 
-  pub line-put :
-      {old new : List ℕ} {at end : ℕ} → Part old at 39 (toPrice ++ (10 ∷ [])) new end → Puts old at (markLine m) new end × (end ≤ at + 39)
-  line-put p = let few = p .few in (rw line-is at (p .puts), omega (arith, p .puts .place))
+  pub line-put : {old new : List ℕ} {at end : ℕ} → Puts old at parts new end → Puts old at (markLine m) new end
+  line-put p = rw line-is at p
 
 -- its side
 module _ {old new : List ℕ} {at end : ℕ} {buy : Bool} where
@@ -81,19 +72,11 @@ module _ (n i : ℕ) (rows : List NMark) (h : n ≤ length rows) where
   pub line-none : {text all : List ℕ} → n ≤ i → text ++ each markLine (drop i (take n rows)) ≡ all → text ≡ all
   line-none {text} k e = sym (append-nil text) ∙ (rw (left-none n i rows k h) at e)
 
--- ---- the line of a refusal, up to each of its parts
-
-abbrev pub toNumber : ℕ → List ℕ
-toNumber number = ascii "refused " ++ decimal number
-
-abbrev pub toWord : ℕ → List ℕ
-toWord number = toNumber number ++ ascii " at "
-
-refused-is : (number place : ℕ) → toWord number ++ (decimal place ++ (10 ∷ [])) ≡ refusedLine number place
-unfolding refusedLine ascii
-refused-is number place = simp append-assoc
+-- ---- the line of a refusal, of its parts
 
 pub refused-put :
-    (number place : ℕ) {old new : List ℕ} {end : ℕ} → Part old 0 36 (toWord number ++ (decimal place ++ (10 ∷ []))) new end
-    → (take end new ≡ refusedLine number place) × (end ≤ 24576)
-refused-put number place p = let few = p .few in (p .puts .text ∙ refused-is number place, omega (arith, p .puts .place))
+    (number place : ℕ) {old new : List ℕ} {end : ℕ}
+    → Puts old 0 (((ascii "refused " ++ decimal number) ++ ascii " at ") ++ (decimal place ++ (10 ∷ []))) new end
+    → take end new ≡ refusedLine number place
+unfolding refusedLine ascii
+refused-put number place p = p .text ∙ simp append-assoc

@@ -45,21 +45,3 @@ put-on {old} {at = at} first more p q =
 -- bytes that fill the buffer
 pub put-whole : {old new : List ℕ} {end : ℕ} (bytes : List ℕ) → length bytes ≡ length old → Puts old 0 bytes new end → new ≡ bytes
 put-whole {new} {end} bytes e p = sym (take-all end new (omega (arith, p .place, p .long))) ∙ p .text
-
--- ---- a text of bounded length, one part behind the other
-
--- some bytes that are put, no more than k
-pub record Part (old : List ℕ) (at k : ℕ) (bytes new : List ℕ) (end : ℕ) : Type 0 where
-  pub puts : Puts old at bytes new end
-  pub few : length bytes ≤ k
-
-pub part-on :
-    {old mid new : List ℕ} {at k place end : ℕ} (m : ℕ) (first more : List ℕ) → Part old at k first mid place → Puts mid place more new end
-    → length more ≤ m → Part old at (k + m) (first ++ more) new end
-part-on m first more p q h =
-    record { puts = put-on first more (p .puts) q; few = let f = p .few in omega (arith, length-append first more) }
-
--- there is room for more behind it
-pub part-room :
-    {old new : List ℕ} {at k end : ℕ} (m : ℕ) (first : List ℕ) → Part old at k first new end → at + (k + m) ≤ length old → end + m ≤ length new
-part-room m first p h = let f = p .few in let place = p .puts .place in let long = p .puts .long in omega arith
