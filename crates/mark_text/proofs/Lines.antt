@@ -2,7 +2,7 @@
 use Prim.Native.Nat.{ℕ, _+_, _≤_, _<_}
 use native.Mathlib.Omega.{arith}
 use mathlib.Core.Path.{_≡_, sym, _∙_}
-use mathlib.Core.Bool.{Bool, true, false, not, cond}
+use mathlib.Core.Bool.{false, not, cond}
 use mathlib.Core.List.{List, [], _∷_, _++_, append-assoc, append-nil}
 use lib.ListN.{length, getD, take, drop, replicate, length-replicate}
 use lib.Ieee.{binary64, toBits}
@@ -16,10 +16,7 @@ use Rattle.laws.proofs.Arrays.{at-in, left-more, left-none}
 use Rattle.text.specs.Puts.{Puts}
 
 -- a buffer into which nothing is put yet
-abbrev pub fresh : List ℕ
-fresh = replicate 24576 0
-
-pub length-fresh : length fresh ≡ 24576
+pub length-fresh : length (replicate {A = ℕ} 24576 0) ≡ 24576
 length-fresh = length-replicate {A = ℕ} 24576 0
 
 -- ---- a mark's line, of its parts
@@ -36,18 +33,6 @@ module _ (m : NMark) where
 
   pub line-put : {old new : List ℕ} {at end : ℕ} → Puts old at parts new end → Puts old at (markLine m) new end
   line-put p = rw line-is at p
-
--- its side
-module _ {old new : List ℕ} {at end : ℕ} {buy : Bool} where
-  pub side-buy :
-      buy ≡ true → Puts old at (ascii "buy ") new end → Puts old at (cond buy (ascii "buy ") (ascii "sell ")) new end × (end ≤ at + 5)
-  unfolding ascii
-  side-buy h p = (rw h p, omega (arith, p .place))
-
-  pub side-sell :
-      buy ≡ false → Puts old at (ascii "sell ") new end → Puts old at (cond buy (ascii "buy ") (ascii "sell ")) new end × (end ≤ at + 5)
-  unfolding ascii
-  side-sell h p = (rw h p, omega (arith, p .place))
 
 -- ---- the header, and the lines of the marks that are left from place i on
 

@@ -14,7 +14,9 @@ use Rattle.mark_text.proofs.put_line.Tie as tie
 order-fits : (c : tie.After-struct-known) → c .before .before .before .before .before .before .before .args .m .order < 10 ^ 10
 order-fits c = omega arith
 
-bar-fits : (c : tie.After-struct-known2) → let side = c .before .before .before .before .before .before .before .before .before in side .before .before .before .args .m .«bar_index» < 10 ^ 5
+bar-fits :
+    (c : tie.After-struct-known2)
+    → c .before .before .before .before .before .before .before .before .before .before .before .before .args .m .«bar_index» < 10 ^ 5
 bar-fits c = omega arith
 
 put-number-requires : tie.Need-put-number-requires
@@ -30,7 +32,9 @@ put-hex-requires c κs =
 
 -- the parts before the line feed have at most 38 bytes
 abbrev entry : tie.After-put-hex → tie.Start
-entry c = let order = c .before .before .before .before .before .before .before .before .before .before in order .before .before .before .before .before .before .before .before
+entry c =
+    let order = c .before .before .before .before .before .before .before .before .before .before in
+    order .before .before .before .before .before .before .before .before
 
 few : (c : tie.After-put-hex) → (c .put-hex .result ≤ entry c .args .at + 38) × (length (c .put-hex .last .0) ≡ length (entry c .args .out .now))
 few c =

@@ -21,27 +21,26 @@ rows-long c = search (needs, length-via)
 returns : tie.Need-returns
 returns c =
     let called = c .before .before .before in
-    let s = start called in (
-      c .refused-line .ensures .0 ∙ sym (call-refused _ (quotes s) (s .pre) _ _ _ (called .bigseg-3n-marks-all-zhongshu .ensures) (λ z. omega (arith, z, c .before .if1 .taken))),
-      c .refused-line .ensures .1,
-    )
+    let s = start called in
+    let e = called .bigseg-3n-marks-all-zhongshu .ensures in
+    let line = c .refused-line .ensures in
+    (line .0 ∙ sym (call-refused _ (quotes s) (s .pre) _ _ _ e (λ z. omega (arith, z, c .before .if1 .taken))), line .1)
 
 marks-text-requires : tie.Need-marks-text-requires
 marks-text-requires c κs =
     let called = c .before .before .before in
-    let s = start called in (
-      omega (arith, rows-few _ (quotes s) (s .pre) _ _ _ (called .bigseg-3n-marks-all-zhongshu .ensures) (c .before .if1 .left), rows-long called),
-      rows-priced _ (quotes s) (s .pre) _ _ _ (called .bigseg-3n-marks-all-zhongshu .ensures) (c .before .if1 .left),
-    )
+    let s = start called in
+    let e = called .bigseg-3n-marks-all-zhongshu .ensures in
+    let z = c .before .if1 .left in
+    (omega (arith, rows-few _ (quotes s) (s .pre) _ _ _ e z, rows-long called), rows-priced _ (quotes s) (s .pre) _ _ _ e z)
 
 returns-2 : tie.Need-returns-2
 returns-2 c =
     let else1 = c .before .before in
     let called = else1 .before .before in
-    let s = start called in (
-      c .marks-text .ensures .0 ∙ sym (call-given _ (quotes s) (s .pre) _ _ _ (called .bigseg-3n-marks-all-zhongshu .ensures) (else1 .if1 .left)),
-      c .marks-text .ensures .1,
-    )
+    let s = start called in
+    let text = c .marks-text .ensures in
+    (text .0 ∙ sym (call-given _ (quotes s) (s .pre) _ _ _ (called .bigseg-3n-marks-all-zhongshu .ensures) (else1 .if1 .left)), text .1)
 
 pub marks-of-chart-spec : {M : Type 1} → statement M
 marks-of-chart-spec = tie.close (tie.spec (search needs) (search needs) returns marks-text-requires returns-2)

@@ -11,7 +11,11 @@ use Rattle.marks_file.proofs.marks_of_file.Statement.{statement}
 use Rattle.marks_file.proofs.marks_of_file.Tie as tie
 
 -- reading's answer, with 2,048 places for bars
-read : (c : tie.After-read-chart) → loaded (c .read-chart .result .number) (c .read-chart .result .place) (c .read-chart .result .chart) (c .read-chart .result .bars) (record { highs = c .read-chart .last .1 .0; lows = c .read-chart .last .1 .1 .0 }) ≡ readFile 2048 (c .before .before .before .before .args .file .now)
+read :
+    (c : tie.After-read-chart)
+    → let r = c .read-chart .result in
+    let q : Quotes = record { highs = c .read-chart .last .1 .0; lows = c .read-chart .last .1 .1 .0 } in
+    loaded (r .number) (r .place) (r .chart) (r .bars) q ≡ readFile 2048 (c .before .before .before .before .args .file .now)
 read c = c .read-chart .ensures .0 ∙ lent-read _ _ refl refl
 
 returns : tie.Need-returns
