@@ -18,71 +18,36 @@ use Rattle.rules.specs.Records.{levelsOf, Quotes}
 use Rattle.rules.specs.Machine.{withStrokes, withSegments, withBigs, withSuperiors}
 use Rattle.rules.specs.File.{Record, stroke, segment, big, superior, bar, number, price, strokeIn, tripleIn, append, fill}
 use Rattle.laws.proofs.Lists.{false-any, all-getD}
+use Rattle.laws.proofs.Levels as level
+use Rattle.laws.proofs.Levels.{Level, above, places, many, grown, grown-is}
 
 -- ---- one record more in a chart's array, at the place of its count
 
 module _ (c : Chart) where
   -- that place is in the array; a bar has none
+  abbrev HasPlace : (l : Level) → Type 0
+  HasPlace l = many l c < length (places l c)
+
   abbrev pub Room : Record → Type 0
-  Room (stroke s) = c .«stroke_count» < length (c .strokes)
-  Room (segment t) = c .«segment_count» < length (c .segments)
-  Room (big t) = c .«big_count» < length (c .bigs)
-  Room (superior t) = c .«superior_count» < length (c .superiors)
+  Room (stroke s) = HasPlace level.stroke
+  Room (segment t) = HasPlace (above level.segment)
+  Room (big t) = HasPlace (above level.big)
+  Room (superior t) = HasPlace (above level.superior)
   Room (bar h l) = Unit {0}
 
   abbrev pub stored : Record → Chart
-  stored (stroke s) =
-      record {
-        strokes = set (c .strokes) (c .«stroke_count») s;
-        «stroke_count» = c .«stroke_count» + 1;
-        segments = c .segments;
-        «segment_count» = c .«segment_count»;
-        bigs = c .bigs;
-        «big_count» = c .«big_count»;
-        superiors = c .superiors;
-        «superior_count» = c .«superior_count»;
-      }
-  stored (segment t) =
-      record {
-        strokes = c .strokes;
-        «stroke_count» = c .«stroke_count»;
-        segments = set (c .segments) (c .«segment_count») t;
-        «segment_count» = c .«segment_count» + 1;
-        bigs = c .bigs;
-        «big_count» = c .«big_count»;
-        superiors = c .superiors;
-        «superior_count» = c .«superior_count»;
-      }
-  stored (big t) =
-      record {
-        strokes = c .strokes;
-        «stroke_count» = c .«stroke_count»;
-        segments = c .segments;
-        «segment_count» = c .«segment_count»;
-        bigs = set (c .bigs) (c .«big_count») t;
-        «big_count» = c .«big_count» + 1;
-        superiors = c .superiors;
-        «superior_count» = c .«superior_count»;
-      }
-  stored (superior t) =
-      record {
-        strokes = c .strokes;
-        «stroke_count» = c .«stroke_count»;
-        segments = c .segments;
-        «segment_count» = c .«segment_count»;
-        bigs = c .bigs;
-        «big_count» = c .«big_count»;
-        superiors = set (c .superiors) (c .«superior_count») t;
-        «superior_count» = c .«superior_count» + 1;
-      }
+  stored (stroke s) = grown level.stroke c s
+  stored (segment t) = grown (above level.segment) c t
+  stored (big t) = grown (above level.big) c t
+  stored (superior t) = grown (above level.superior) c t
   stored (bar h l) = c
 
   pub levels-stored : (q : Quotes) (r : Record) → Room r → levelsOf (stored r) ≡ append (record { levels = levelsOf c; bars = q }) r .levels
-  unfolding levelsOf append withStrokes withSegments withBigs withSuperiors
-  levels-stored q (stroke s) h = rw (add-one (c .«stroke_count»), take-suc-set (c .strokes) (c .«stroke_count») s h)
-  levels-stored q (segment t) h = rw (add-one (c .«segment_count»), take-suc-set (c .segments) (c .«segment_count») t h)
-  levels-stored q (big t) h = rw (add-one (c .«big_count»), take-suc-set (c .bigs) (c .«big_count») t h)
-  levels-stored q (superior t) h = rw (add-one (c .«superior_count»), take-suc-set (c .superiors) (c .«superior_count») t h)
+  unfolding levelsOf append
+  levels-stored q (stroke s) h = grown-is c level.stroke s h
+  levels-stored q (segment t) h = grown-is c (above level.segment) t h
+  levels-stored q (big t) h = grown-is c (above level.big) t h
+  levels-stored q (superior t) h = grown-is c (above level.superior) t h
   levels-stored q (bar x l) h = refl
 
 -- ---- a buffer, or a lent slice, that is filled further

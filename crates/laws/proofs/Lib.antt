@@ -34,3 +34,4 @@ pub mod FileLong
 pub mod FileCode
 pub mod Arrays
 pub mod Answers
+pub mod Levels

@@ -24,9 +24,9 @@ use Rattle.laws.proofs.Arrays.{one-more}
 use Rattle.laws.proofs.Lists.{map-append}
 use Rattle.laws.proofs.Whole.{never-10-segments, never-10-bigs}
 use Rattle.laws.proofs.Answers.{counted, call-number, call-rows}
+use Rattle.laws.proofs.Levels.{Above, Level, above, big, superior, put, places, many, withLevel, put-is, put-fits}
 use Rattle.live.specs.Steps.{Accepts, Steps}
 use Rattle.live.proofs.Outcomes.{ordered}
-use Rattle.live.proofs.Levelled.{Above, Level, above, big, superior, put, places, many, withLevel, put-is, put-fits}
 
 -- ---- an accepted derive: the byte is 0 or 1, and the level is empty
 

@@ -11,8 +11,9 @@ use Rattle.rules.specs.Refusals.{lengthenRefusal}
 use Rattle.rules.specs.Machine.{lengthen, lengthened, refusal, stepped, withSuperiors}
 use Rattle.laws.proofs.Arrays.{Sized}
 use Rattle.laws.proofs.Answers.{Counted, counted}
+use Rattle.laws.proofs.Levels.{above, superior, put, put-fits, as-long}
 use Rattle.live.specs.Steps.{Accepts, Steps}
-use Rattle.live.proofs.Levelled.{superior, above, put, put-fits, as-long, before}
+use Rattle.live.proofs.Levelled.{before}
 
 -- a record with another last
 abbrev ending : Triple → ℕ → Triple

@@ -3,7 +3,8 @@ use Prim.Native.Nat.{_≤_}
 use mathlib.Core.Path.{_≡_}
 use borrow.Author.Needs.{needs}
 use Rattle.laws.proofs.Arrays.{length-via, Sized, sized-via}
-use Rattle.live.proofs.Levelled.{stroke, above, segment, big, superior, some-record, withdraw-does, third-level}
+use Rattle.laws.proofs.Levels.{stroke, above, segment, big, superior}
+use Rattle.live.proofs.Levelled.{some-record, withdraw-does, third-level}
 use Rattle.live.proofs.shortened.Statement.{statement}
 use Rattle.live.proofs.shortened.Tie as tie
 

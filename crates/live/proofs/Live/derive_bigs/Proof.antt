@@ -14,9 +14,9 @@ use Rattle.rules.specs.Live.{liveRefusal}
 use Rattle.laws.proofs.Arrays.{length-via, Sized, sized-via}
 use Rattle.laws.proofs.Answers.{counted}
 use Rattle.laws.proofs.Machine.{not-21-good}
+use Rattle.laws.proofs.Levels.{above, big, as-long}
 use Rattle.live.specs.Did.{dataOf}
 use Rattle.live.proofs.Outcomes.{did-21, own-number, did-not, accepts}
-use Rattle.live.proofs.Levelled.{above, big, as-long}
 use Rattle.live.proofs.Derives.{Found, bigs-found, bigs-does}
 use Rattle.live.proofs.Live.derive_bigs.Statement.{statement}
 use Rattle.live.proofs.Live.derive_bigs.Tie as tie

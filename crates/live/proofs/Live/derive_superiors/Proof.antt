@@ -14,9 +14,9 @@ use Rattle.rules.specs.Live.{liveRefusal}
 use Rattle.laws.proofs.Arrays.{length-via, Sized, sized-via}
 use Rattle.laws.proofs.Answers.{counted}
 use Rattle.laws.proofs.Machine.{not-21-good}
+use Rattle.laws.proofs.Levels.{above, superior, as-long}
 use Rattle.live.specs.Did.{dataOf}
 use Rattle.live.proofs.Outcomes.{did-21, own-number, did-not, accepts}
-use Rattle.live.proofs.Levelled.{above, superior, as-long}
 use Rattle.live.proofs.Derives.{Found, superiors-found, superiors-does}
 use Rattle.live.proofs.Live.derive_superiors.Statement.{statement}
 use Rattle.live.proofs.Live.derive_superiors.Tie as tie
