@@ -5,12 +5,10 @@ use native.Mathlib.Numerals.{add-one}
 use mathlib.Core.Path.{_≡_, refl, sym, ap, subst, _∙_}
 use mathlib.Core.Bool.{Bool, true, false, not}
 use mathlib.Core.List.{List, [], _∷_, foldl, List·Memᴰ, List·Memᴰ·head}
-use mathlib.Core.Option.{Option, none, some}
 use lib.ListN.{take, drop}
 use lib.Dec.{leb}
 use lib.Ieee.{Float}
 use Rattle.chart.specs.declared.Stroke.{Stroke}
-use Rattle.chart.specs.declared.NMark.{NMark}
 use Rattle.rules.specs.Lists.{find, isNone, keep, before}
 use Rattle.rules.specs.Records.{Levels, Quotes}
 use Rattle.rules.specs.Ranges.{lastStroke}
@@ -25,7 +23,7 @@ use Rattle.mark_hits.specs.declared.End.{End}
 use Rattle.mark_hits.specs.declared.End.the-variants.{At, Over}
 use Rattle.mark_hits.specs.Found.{hitBar}
 use Rattle.mark_hits.specs.Anchors.{endsIn, EndsBy, NextEnd, barsIn}
-use Rattle.mark_hits.proofs.Ends.{keep-yes, keep-no}
+use Rattle.mark_hits.proofs.Hits.{hit-test}
 use Rattle.mark_hits.proofs.Anchors.{bars-none, bars-over, bars-next}
 use Rattle.mark_rows.specs.Rows.{keyOf, barIn, marksIn, Grown, Pushes, KeepsRoom, KeepsEnds}
 use Rattle.mark_rows.proofs.Gathered.{key-bar}
@@ -33,52 +31,24 @@ use Rattle.mark_rows.proofs.Numbers.{mark-key, grown-none, grown-then}
 use Rattle.mark_anchors.specs.declared.AnchorHits.{AnchorHits}
 use Rattle.mark_anchors.specs.Anchored.{numberedHits, allHits, HitRows}
 
--- ---- lists
-
-module _ {A : Type 0} (p : A → Bool) (x : A) (xs : List A) where
-  before-here : p x ≡ true → before p (x ∷ xs) ≡ []
-  before-here e = rw (before, e)
-
-  before-on : p x ≡ false → before p (x ∷ xs) ≡ x ∷ before p xs
-  before-on e = rw (before, e)
-
-  -- whether an element of its own is found
-  found-passes : not (isNone (find p (x ∷ []))) ≡ p x
-  found-passes = go (p x)
-    where
-      go : (t : Bool) → not (isNone {A = A} (elim t [ true ↦ some x | false ↦ none ])) ≡ t
-      go true = refl
-      go false = refl
-
 -- ---- one bar
 
-numbered-more : (q : Quotes) (buy : Bool) (order bar : ℕ) (bars : List ℕ) → numbered q buy order (bar ∷ bars) ≡ markAt q buy order bar ∷ numbered q buy (order + 1) bars
-unfolding numbered
-numbered-more q buy order bar bars = rw (add-one order)
+-- the hits at one bar and at those behind it
+module _ (q : Quotes) (buy : Bool) (p : Float) (stop : ℕ → Bool) (order bar : ℕ) (bars : List ℕ) where
+  hits-over : stop bar ≡ true → numberedHits q buy p stop order (bar ∷ bars) ≡ []
+  unfolding numbered
+  hits-over e = rw (before, e)
 
--- the hits at one bar, which does not stop, and at those behind it
-module _
-    (q : Quotes) (buy : Bool) (p : Float) (stop : ℕ → Bool) (order bar : ℕ) (bars : List ℕ) (hit : Hit) (t : Bool)
-    (tried : find (beats q buy p) (bar ∷ []) ≡ hitBar hit) (test : t ≡ not (isNone (hitBar hit))) (on : stop bar ≡ false)
-  where
-    beaten : beats q buy p bar ≡ t
-    beaten = sym (test ∙ ap (λ (o : Option ℕ). not (isNone o)) (sym tried) ∙ found-passes (beats q buy p) bar [])
+  -- the bar does not stop
+  module _
+      (hit : Hit) (t : Bool) (tried : find (beats q buy p) (bar ∷ []) ≡ hitBar hit) (test : t ≡ not (isNone (hitBar hit))) (on : stop bar ≡ false)
+    where
+      hits-missed : t ≡ false → numberedHits q buy p stop order (bar ∷ bars) ≡ numberedHits q buy p stop order bars
+      hits-missed e = rw (before, on, keep, hit-test (beats q buy p) bar hit tried t test ∙ e)
 
-    abbrev kept : List ℕ → List NMark
-    kept l = numbered q buy order (keep (beats q buy p) l)
-
-    hits-missed : t ≡ false → numberedHits q buy p stop order (bar ∷ bars) ≡ numberedHits q buy p stop order bars
-    hits-missed e = ap kept (before-on stop bar bars on) ∙ ap (numbered q buy order) (keep-no (beats q buy p) bar (before stop bars) (beaten ∙ e))
-
-    hits-more : t ≡ true → numberedHits q buy p stop order (bar ∷ bars) ≡ markAt q buy order bar ∷ numberedHits q buy p stop (order + 1) bars
-    hits-more e =
-        ap kept (before-on stop bar bars on)
-        ∙ ap (numbered q buy order) (keep-yes (beats q buy p) bar (before stop bars) (beaten ∙ e))
-        ∙ numbered-more q buy order bar (keep (beats q buy p) (before stop bars))
-
-hits-over : (q : Quotes) (buy : Bool) (p : Float) (stop : ℕ → Bool) (order bar : ℕ) (bars : List ℕ) → stop bar ≡ true → numberedHits q buy p stop order (bar ∷ bars) ≡ []
-unfolding numbered
-hits-over q buy p stop order bar bars e = ap (λ (l : List ℕ). numbered q buy order (keep (beats q buy p) l)) (before-here stop bar bars e)
+      hits-more : t ≡ true → numberedHits q buy p stop order (bar ∷ bars) ≡ markAt q buy order bar ∷ numberedHits q buy p stop (order + 1) bars
+      unfolding numbered
+      hits-more e = rw (before, on, keep, hit-test (beats q buy p) bar hit tried t test ∙ e, add-one order)
 
 hits-none : (q : Quotes) (buy : Bool) (p : Float) (stop : ℕ → Bool) (order : ℕ) → numberedHits q buy p stop order [] ≡ []
 unfolding numbered
@@ -158,6 +128,14 @@ module _
               (f : r ≡ false) (later : k < next) (hit : Hit) (u : Bool) (tried : find (beats q (a .buy) (a .price)) (bar ∷ []) ≡ hitBar hit)
               (tested : u ≡ not (isNone (hitBar hit)))
             where
+              -- the marks that are left, with this bar first
+              opened :
+                  (c : Levels) (stop : ℕ → Bool) → Bigs c (a .bigs) bars prices → Limits (a .limit) stop
+                  → foldl push3N (marksIn q (take count keys) (take count orders))
+                  (numberedHits q (a .buy) (a .price) stop order (bar ∷ barsIn c (a .buy) (a .bar) (drop next (c .bigs))))
+                  ≡ foldl push3N (marksIn q (take n keys₀) (take n orders₀)) (allHits c q a stop)
+              opened c stop t l = rw (bars-next c (a .buy) (a .bar) k end (ends c t) next bar x e) at (so-far .marks c stop t l)
+
               pub pushed-missed : u ≡ false → HitsSoFar bars prices q a n keys₀ orders₀ keys orders order count next
               pushed-missed g =
                   record {
@@ -166,12 +144,7 @@ module _
                     room = so-far .room;
                     marks =
                         λ c stop t l.
-                        let rest = barsIn c (a .buy) (a .bar) (drop next (c .bigs)) in
-                        let one = bars-next c (a .buy) (a .bar) k end (ends c t) next bar x e in
-                        let same =
-                        ap (numberedHits q (a .buy) (a .price) stop order) one
-                        ∙ hits-missed q (a .buy) (a .price) stop order bar rest hit u tried tested (l bar small ∙ sym test ∙ f) g in
-                        ap (foldl push3N (marksIn q (take count keys) (take count orders))) (sym same) ∙ so-far .marks c stop t l;
+                        rw (hits-missed q (a .buy) (a .price) stop order bar _ hit u tried tested (l bar small ∙ sym test ∙ f) g) at (opened c stop t l);
                   }
 
               pub pushed-more :
@@ -190,13 +163,6 @@ module _
                         (subst (λ (b : ℕ). List·Memᴰ b (endBars c)) same (bar-in c (not (a .buy)) (a .bar) k end (ends c t) next bar x e));
                     marks =
                         λ c stop t l.
-                        let rest = barsIn c (a .buy) (a .bar) (drop next (c .bigs)) in
-                        let one = bars-next c (a .buy) (a .bar) k end (ends c t) next bar x e in
-                        let same =
-                        ap (numberedHits q (a .buy) (a .price) stop order) one
-                        ∙ hits-more q (a .buy) (a .price) stop order bar rest hit u tried tested (l bar small ∙ sym test ∙ f) g in
                         let pushed = rw (is-key, mark-key q bar (a .buy) order) at (marks q) in
-                        ap (λ (ms : List NMark). foldl push3N ms (numberedHits q (a .buy) (a .price) stop (order + 1) rest)) pushed
-                        ∙ ap (foldl push3N (marksIn q (take count keys) (take count orders))) (sym same)
-                        ∙ so-far .marks c stop t l;
+                        rw pushed (rw (hits-more q (a .buy) (a .price) stop order bar _ hit u tried tested (l bar small ∙ sym test ∙ f) g) at (opened c stop t l));
                   }

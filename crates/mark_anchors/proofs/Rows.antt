@@ -2,7 +2,7 @@
 use Prim.Native.Nat.{ℕ, _+_, _<_, _≤_}
 use native.Mathlib.Omega.{arith}
 use native.Mathlib.Numerals.{add-one}
-use mathlib.Core.Path.{_≡_, refl, sym, ap, subst, _∙_}
+use mathlib.Core.Path.{_≡_, refl, sym, ap, _∙_}
 use mathlib.Core.Bool.{Bool}
 use mathlib.Core.List.{List, [], _∷_, foldl, foldl-append}
 use lib.ListN.{take, drop, getD, drop-of-length-le}
@@ -13,14 +13,15 @@ use Rattle.chart.specs.declared.NMark.{NMark}
 use Rattle.rules.specs.Lists.{each}
 use Rattle.rules.specs.Records.{Levels, Quotes}
 use Rattle.rules.specs.Marks.{push3N, anchorBars, anchorStop, anchorNumbered, reaches}
-use Rattle.laws.proofs.Lists.{lt-at, at-getD}
+use Rattle.levels.proofs.Read.{no-stroke}
 use Rattle.tables.specs.Tables.{Bigs}
-use Rattle.mark_scan.specs.Scan.{Limits}
+use Rattle.mark_scan.specs.Scan.{Limits, limitOf}
+use Rattle.mark_scan.proofs.Scans.{stroke-limit}
 use Rattle.mark_hits.specs.declared.Price.the-variants as price
 use Rattle.mark_hits.specs.declared.Side.{Side}
 use Rattle.mark_hits.specs.declared.Anchor.{Anchor}
 use Rattle.mark_hits.specs.Anchors.{barsIn, anchorsIn, priceOf, anchorIn, AnchorAt, AnchorsOf}
-use Rattle.mark_hits.proofs.Anchors.{bars-behind}
+use Rattle.mark_hits.proofs.Anchors.{bars-behind, anchor-here}
 use Rattle.mark_rows.specs.Rows.{marksIn, Grown, KeepsEnds}
 use Rattle.mark_rows.proofs.Numbers.{grown-none, grown-then}
 use Rattle.mark_anchors.specs.Anchored.{numberedHits, HitRows, AnchorRows}
@@ -55,7 +56,7 @@ pub record AnchorsSoFar
     pub grown : Grown n keys₀ orders₀ count keys orders
     pub room : KeepsEnds (λ (c : Levels). Bigs c (s .bigs) bars prices) keys₀ n keys count
     pub marks :
-        (c : Levels) → Bigs c (s .bigs) bars prices → Limits limit (reaches (anchorStop c (s .buy)))
+        (c : Levels) → Bigs c (s .bigs) bars prices → limit ≡ limitOf (anchorStop c (s .buy))
         → foldl push3N (marksIn q (take count keys) (take count orders)) (each (anchorNumbered c q (s .buy)) (drop i (anchorsIn c s)))
         ≡ foldl push3N (marksIn q (take n keys₀) (take n orders₀)) (each (anchorNumbered c q (s .buy)) (anchorsIn c s))
 
@@ -77,19 +78,14 @@ module _
 
         module _ (h : i < found) (x : Anchor) (is : x ≡ anchorIn (getD rows i []) (getD cs i nan)) where
           -- the anchor at place i, and those behind it
-          next :
-              (c : Levels) → Bigs c (s .bigs) bars prices
-              → (a : Stroke) × AnchorAt c (s .buy) a x × (drop i (anchorsIn c s) ≡ a ∷ drop (i + 1) (anchorsIn c s))
-          next c t =
-              let table = so-far .table c t in
-              let there = lt-at (anchorsIn c s) i (omega (arith, table .count, h)) in
-              let a = there .0 in
-              let here : drop i (anchorsIn c s) ≡ getD (anchorsIn c s) i a ∷ drop (i + 1) (anchorsIn c s) =
-              rw (add-one i) (drop-cons (anchorsIn c s) i a (omega (arith, table .count, h))) in (
-                a,
-                subst (AnchorAt c (s .buy) a) (sym is) (table .are i a (there .1)),
-                here ∙ ap (λ (b : Stroke). b ∷ drop (i + 1) (anchorsIn c s)) (at-getD (anchorsIn c s) i a a (there .1)),
-              )
+          abbrev a : Levels → Stroke
+          a c = getD (anchorsIn c s) i no-stroke
+
+          here : (c : Levels) → Bigs c (s .bigs) bars prices → AnchorAt c (s .buy) (a c) x
+          here c t = anchor-here c (s .buy) (anchorsIn c s) found rows cs (so-far .table c t) i h x is
+
+          one : (c : Levels) → Bigs c (s .bigs) bars prices → drop i (anchorsIn c s) ≡ a c ∷ drop (i + 1) (anchorsIn c s)
+          one c t = rw (add-one i) (drop-cons (anchorsIn c s) i no-stroke (omega (arith, so-far .table c t .count, h)))
 
           -- an anchor without a price C
           pub anchors-nowhere :
@@ -101,11 +97,7 @@ module _
                 table = so-far .table;
                 grown = so-far .grown;
                 room = so-far .room;
-                marks =
-                    λ c t l.
-                    let there = next c t in
-                    let nothing = numbers-nowhere c q (s .buy) (there .0) x (there .1) e in
-                    rw (there .2, nothing) at (so-far .marks c t l);
+                marks = λ c t l. rw (one c t, numbers-nowhere c q (s .buy) (a c) x (here c t) e) at (so-far .marks c t l);
               }
 
           -- one whose hits are pushed
@@ -123,13 +115,11 @@ module _
                 room = λ c t r. room c t (so-far .room c t r);
                 marks =
                     λ c t l.
-                    let there = next c t in
-                    let a = there .0 in
                     let rest = each (anchorNumbered c q (s .buy)) (drop (i + 1) (anchorsIn c s)) in
                     let old = marksIn q (take count keys) (take count orders) in
-                    let own = numbers-at c q (s .buy) a x (there .1) p e in
-                    ap (λ (ms : List NMark). foldl push3N ms rest) (marks c (reaches (anchorStop c (s .buy))) t l ∙ ap (foldl push3N old) (sym own))
-                    ∙ sym (foldl-append push3N old (anchorNumbered c q (s .buy) a) rest)
-                    ∙ ap (λ (as' : List Stroke). foldl push3N old (each (anchorNumbered c q (s .buy)) as')) (sym (there .2))
-                    ∙ so-far .marks c t l;
+                    let own = numbers-at c q (s .buy) (a c) x (here c t) p e in
+                    let stops : Limits limit (reaches (anchorStop c (s .buy))) = rw l (stroke-limit (anchorStop c (s .buy))) in
+                    ap (λ (ms : List NMark). foldl push3N ms rest) (marks c _ t stops ∙ ap (foldl push3N old) (sym own))
+                    ∙ sym (foldl-append push3N old (anchorNumbered c q (s .buy) (a c)) rest)
+                    ∙ (rw (one c t) at (so-far .marks c t l));
               }

@@ -1,6 +1,7 @@
 -- What the hits behind an anchor stand for, and what they do to the gathered rows. Assumes nothing.
 use Prim.Native.Nat.{ℕ}
-use mathlib.Core.Bool.{Bool, not}
+use mathlib.Core.Path.{_≡_}
+use mathlib.Core.Bool.{Bool}
 use mathlib.Core.List.{List}
 use lib.ListN.{drop}
 use lib.Ieee.{Float}
@@ -8,11 +9,11 @@ use Rattle.chart.specs.declared.NMark.{NMark}
 use Rattle.rules.specs.Lists.{keep, before, each}
 use Rattle.rules.specs.Records.{Levels, Quotes}
 use Rattle.rules.specs.Ranges.{endPoint}
-use Rattle.rules.specs.Marks.{beats, numbered, reaches, anchorStop, anchorNumbered}
+use Rattle.rules.specs.Marks.{beats, numbered, anchorStop, anchorNumbered}
 use Rattle.laws.specs.Lists.{endBars}
 use Rattle.tables.specs.declared.Counts.{Counts}
 use Rattle.tables.specs.Tables.{Bigs, Sups}
-use Rattle.mark_scan.specs.Scan.{Limits}
+use Rattle.mark_scan.specs.Scan.{Limits, limitOf}
 use Rattle.mark_hits.specs.declared.Side.{Side}
 use Rattle.mark_hits.specs.Anchors.{barsIn, anchorsIn}
 use Rattle.mark_rows.specs.Rows.{Room, Gathered}
@@ -22,12 +23,12 @@ use Rattle.mark_anchors.specs.declared.AnchorHits.{AnchorHits}
 
 -- at the end bar of the big at place `last`
 abbrev pub LimitAt : ℕ → List (List ℕ) → List (List Float) → ℕ → ℕ → Type 0
-LimitAt m bars prices last r = (c : Levels) → Bigs c m bars prices → Limits r (reaches (endPoint c last))
+LimitAt m bars prices last r = (c : Levels) → Bigs c m bars prices → r ≡ limitOf (endPoint c last)
 
 -- at the end bar of the first superior whose direction is not the side's
 abbrev pub AnchorLimit : Counts → List (List ℕ) → List (List Float) → List (List ℕ) → Bool → ℕ → Type 0
 AnchorLimit n bars prices sups buy r =
-    (c : Levels) → Bigs c (n .bigs) bars prices → Sups c (n .superiors) sups → Limits r (reaches (anchorStop c buy))
+    (c : Levels) → Bigs c (n .bigs) bars prices → Sups c (n .superiors) sups → r ≡ limitOf (anchorStop c buy)
 
 -- ---- rows
 
@@ -56,5 +57,5 @@ HitRows bars prices q a n keys orders r keys' orders' =
 abbrev pub AnchorRows :
     List (List ℕ) → List (List Float) → Quotes → Side → ℕ → ℕ → List ℕ → List ℕ → ℕ → List ℕ → List ℕ → Type 0
 AnchorRows bars prices q s limit n keys orders r keys' orders' =
-    (c : Levels) → Bigs c (s .bigs) bars prices → Limits limit (reaches (anchorStop c (s .buy)))
+    (c : Levels) → Bigs c (s .bigs) bars prices → limit ≡ limitOf (anchorStop c (s .buy))
     → Gathered q (each (anchorNumbered c q (s .buy)) (anchorsIn c s)) n keys orders r keys' orders'

@@ -5,25 +5,16 @@ use mark_hits::End;
 use mark_hits::Price;
 use mark_hits::Side;
 use tables::Counts;
-ghost use mathlib.Core.Path.{_≡_};
-ghost use mathlib.Core.Bool.{not, Bool·beq};
 ghost use mathlib.Core.List.{List·Memᴰ};
 ghost use Prim.Native.Nat.{_≤_, _<_};
 ghost use lib.ListN.{length, take};
-ghost use Rattle.rules.specs.Records.{isUp, Levels};
+ghost use Rattle.rules.specs.Records.{Levels};
 ghost use Rattle.laws.specs.Lists.{Distinct};
 ghost use Rattle.tables.specs.Tables.{Bigs};
 ghost use Rattle.mark_rows.specs.Rows.{barIn, Grown, Pushes, KeepsRoom, KeepsEnds};
 ghost use Rattle.mark_anchors.specs.Anchored.{LimitAt, AnchorLimit, HasRoom, HitRows, AnchorRows};
 
 // ---- where an anchor's hits stop
-
-// Whether a direction is not the side's.
-fn against(way: u16, buy: bool) -> bool
-    ensures { λ r. ⌜ r ≡ not (Bool·beq (isUp way) buy) ⌝ }
-{
-    (way == 1) != buy
-}
 
 // The end bar of the big at place `last`, if it has one.
 fn limit_at(bars: &[[u16; 6]; 256], prices: &[[f64; 3]; 256], m: usize, last: u16) -> u32
@@ -55,7 +46,7 @@ pub fn anchor_limit(
     let n = counts.superiors;
     let mut j = 0usize;
     while j < n {
-        if against(sups[j][0], buy) {
+        if !mark_hits::is_way(sups[j][0], buy) {
             return limit_at(bars, prices, counts.bigs, sups[j][2]);
         }
         j += 1;

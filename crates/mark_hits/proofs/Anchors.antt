@@ -8,10 +8,10 @@ use mathlib.Core.List.{List, [], _∷_, _++_, map, append-nil}
 use mathlib.Core.Option.{Option, none, some}
 use mathlib.Core.Logic.{_⊎_, inl, inr}
 use lib.ListN.{length, take, drop, getD, getElem?, set}
-use lib.Seq.{take-all, take-suc, getD-set-same, getD-set-other}
+use lib.Seq.{take-suc, getD-set-same, getD-set-other}
 use lib.Dec.{ltb}
 use lib.Ieee.{Float, nan}
-use borrow.Author.Tests.{eq-eqb, ne-eqb, lt-ltb, ltb-true, ltb-false}
+use borrow.Author.Tests.{eq-eqb, ne-eqb, lt-ltb, ltb-true}
 use Rattle.chart.specs.declared.Stroke.{Stroke}
 use Rattle.chart.specs.declared.Triple.{Triple}
 use Rattle.chart.specs.declared.EndPoint.the-variants as point
@@ -20,7 +20,8 @@ use Rattle.rules.specs.Records.{isUp, Levels}
 use Rattle.rules.specs.Ranges.{lastStroke}
 use Rattle.rules.specs.Marks.{anchorsOf, anchorSide, anchorBars, endsAfter, anchorPrice}
 use Rattle.laws.proofs.Tests.{length-snoc, none-some}
-use Rattle.levels.proofs.Read.{no-triple}
+use Rattle.laws.proofs.Lists.{lt-at, at-getD}
+use Rattle.levels.proofs.Read.{no-triple, no-stroke, clipped}
 use Rattle.tables.specs.declared.Counts.{Counts}
 use Rattle.tables.specs.Rows.{Wide}
 use Rattle.tables.specs.Tables.{Bigs, Sups, pointIn}
@@ -31,8 +32,8 @@ use Rattle.mark_hits.specs.declared.End.the-variants.{At, Over}
 use Rattle.mark_hits.specs.declared.Price.the-variants as price
 use Rattle.mark_hits.specs.declared.Side.{Side}
 use Rattle.mark_hits.specs.declared.Anchor.{Anchor}
-use Rattle.mark_hits.specs.Anchors.{endsIn, EndsBy, NextEnd, NoneBefore, FirstBehind, barsIn, Anchoring, anchorIn, AnchorAt, Anchors, PutsAnchor, AnchorsOf}
-use Rattle.mark_hits.proofs.Ends.{keep-yes, keep-no, collect-some, collect-none, ends-over, ends-nowhere, ends-soon, no-point, point-stroke}
+use Rattle.mark_hits.specs.Anchors.{endsIn, EndsBy, NextEnd, NoneBefore, FirstBehind, barsIn, Anchoring, priceOf, priceIn, anchorIn, AnchorAt, Anchors, PutsAnchor, AnchorsOf}
+use Rattle.mark_hits.proofs.Ends.{ends-over, ends-nowhere, ends-soon, no-point, point-stroke}
 
 -- ---- a place before which no big ends behind a bar
 
@@ -46,19 +47,12 @@ none-first c bar up = ends-all c up bar
 -- what passes the second of two tests passes the first
 keep-twice : {A : Type 0} (p q : A → Bool) → ((x : A) → q x ≡ true → p x ≡ true) → (xs : List A) → keep q (keep p xs) ≡ keep q xs
 keep-twice p q w [] = refl
-keep-twice {A} p q w (x ∷ xs) = go (p x) refl (keep-twice p q w xs)
+keep-twice p q w (x ∷ xs) = go (p x) refl (q x) refl (keep-twice p q w xs)
   where
-    go : (t : Bool) → p x ≡ t → keep q (keep p xs) ≡ keep q xs → keep q (keep p (x ∷ xs)) ≡ keep q (x ∷ xs)
-    go true e h = ap (keep q) (keep-yes p x xs e) ∙ by (q x) refl
-      where
-        by : (u : Bool) → q x ≡ u → keep q (x ∷ keep p xs) ≡ keep q (x ∷ xs)
-        by true f = keep-yes q x (keep p xs) f ∙ ap (λ (l : List A). x ∷ l) h ∙ sym (keep-yes q x xs f)
-        by false f = keep-no q x (keep p xs) f ∙ h ∙ sym (keep-no q x xs f)
-    go false e h = ap (keep q) (keep-no p x xs e) ∙ h ∙ sym (keep-no q x xs (by (q x) refl))
-      where
-        by : (u : Bool) → q x ≡ u → q x ≡ false
-        by true f = absurd (true≢false (sym (w x f) ∙ e))
-        by false f = f
+    go : (t : Bool) → p x ≡ t → (u : Bool) → q x ≡ u → keep q (keep p xs) ≡ keep q xs → keep q (keep p (x ∷ xs)) ≡ keep q (x ∷ xs)
+    go true e u f h = rw (keep, e, h)
+    go false e true f h = absurd (true≢false (sym (w x f) ∙ e))
+    go false e false f h = rw (keep, e, f, h)
 
 -- it is one for every later bar
 pub none-later : (c : Levels) (last place after : ℕ) → last ≤ after → NoneBefore c last place → NoneBefore c after place
@@ -114,61 +108,31 @@ no-elements : {A : Type 0} (l : List A) → length l ≡ 0 → l ≡ []
 no-elements [] e = refl
 no-elements (x ∷ l) e = absurd (omega arith)
 
--- the first k, where k is the smaller of n and the length
-taken : {A : Type 0} (l : List A) (n k m : ℕ) → length l ≡ m → k ≡ min n m → take k l ≡ take n l
-taken l n k m long e = go (ltb n m) refl
-  where
-    go : (t : Bool) → ltb n m ≡ t → take k l ≡ take n l
-    go true h = let below = ltb-true n m h in let same : k ≡ n = omega arith in rw same
-    go false h = let above = ltb-false n m h in take-all k l (omega arith) ∙ sym (take-all n l (omega arith))
-
 up-is : (up : Bool) → Bool·beq up true ≡ up
 up-is true = refl
 up-is false = refl
-
-anchors-of : (c : Levels) (s : Triple) (ss : List Triple) → collect (lastStroke c) (take (s .first) (c .bigs)) ≡ anchorsOf c (s ∷ ss)
-unfolding anchorsOf
-anchors-of c s ss = refl
-
-side-first : (s : Triple) (ss : List Triple) → isUp (s .direction) ≡ anchorSide (s ∷ ss)
-unfolding anchorSide
-side-first s ss = refl
 
 module _ (n : Counts) (sups : List (List ℕ)) (c : Levels) (long : length (c .bigs) ≡ n .bigs) (t : Sups c (n .superiors) sups) where
   pub side-none : n .superiors ≡ 0 → Anchoring c (record { bigs = n .bigs; anchors = 0; buy = true })
   unfolding anchorsOf anchorSide
   side-none e =
       let gone = no-elements (c .superiors) (t .count ∙ e) in
-      record { bigs = long; anchors = rw gone; buy = rw gone }
+      record { anchors = rw gone; buy = rw gone }
 
   pub side-some :
       (n .superiors ≡ 0 → ⊥) → (first k : ℕ) (buy : Bool) → first ≡ getD (getD sups 0 []) 1 0 → k ≡ min first (n .bigs)
       → buy ≡ Bool·beq (isUp (getD (getD sups 0 []) 0 0)) true → Anchoring c (record { bigs = n .bigs; anchors = k; buy = buy })
+  unfolding anchorsOf anchorSide
   side-some e first k buy f g h =
       let s = triple-is c (n .superiors) sups t 0 (omega arith) in
-      go (c .superiors) refl (ap (λ (u : Triple). u .first) s) (ap (λ (u : Triple). u .direction) s)
+      go (c .superiors) refl (f ∙ ap (λ (u : Triple). u .first) s) (h ∙ ap (λ (u : Triple). Bool·beq (isUp (u .direction)) true) s)
     where
-      first-anchors : (s : Triple) (ss : List Triple) → c .superiors ≡ s ∷ ss → collect (lastStroke c) (take (s .first) (c .bigs)) ≡ anchorsOf c (c .superiors)
-      first-anchors s ss is = anchors-of c s ss ∙ ap (anchorsOf c) (sym is)
-
-      first-side : (s : Triple) (ss : List Triple) → c .superiors ≡ s ∷ ss → isUp (s .direction) ≡ anchorSide (c .superiors)
-      first-side s ss is = side-first s ss ∙ ap anchorSide (sym is)
-
-      by-first :
-          (s : Triple) (ss : List Triple) → c .superiors ≡ s ∷ ss → first ≡ s .first → buy ≡ Bool·beq (isUp (s .direction)) true
-          → Anchoring c (record { bigs = n .bigs; anchors = k; buy = buy })
-      by-first s ss is x y =
-          record {
-            bigs = long;
-            anchors = ap (collect (lastStroke c)) (taken (c .bigs) first k (n .bigs) long g) ∙ rw x (first-anchors s ss is);
-            buy = y ∙ up-is (isUp (s .direction)) ∙ first-side s ss is;
-          }
-
       go :
-          (ss : List Triple) → c .superiors ≡ ss → getD (getD sups 0 []) 1 0 ≡ getD ss 0 no-triple .first
-          → getD (getD sups 0 []) 0 0 ≡ getD ss 0 no-triple .direction → Anchoring c (record { bigs = n .bigs; anchors = k; buy = buy })
+          (ss : List Triple) → c .superiors ≡ ss → first ≡ getD ss 0 no-triple .first
+          → buy ≡ Bool·beq (isUp (getD ss 0 no-triple .direction)) true → Anchoring c (record { bigs = n .bigs; anchors = k; buy = buy })
       go [] is x y = absurd (omega (arith, t .count, ap (λ (l : List Triple). length l) is))
-      go (s ∷ ss) is x y = by-first s ss is (f ∙ x) (h ∙ ap (λ (w : ℕ). Bool·beq (isUp w) true) y)
+      go (s ∷ ss) is x y =
+          record { anchors = rw (g, clipped first (n .bigs) (c .bigs) long, x, is); buy = rw is (y ∙ up-is (isUp (s .direction))) }
 
 -- ---- a row
 
@@ -193,64 +157,57 @@ snoc-at (z ∷ l) x y (suc i) e = go (snoc-at l x y i e)
     go (inl w) = inl (w .0, omega (arith, w .1))
     go (inr w) = inr (omega (arith, w .0), w .1)
 
+-- one element more of a list whose elements stand in two columns
+pub column-more :
+    {A X Y : Type 0} (P : ℕ → A → X → Y → Type 0) (n : ℕ) (l : List A) (xs : List X) (ys : List Y) (a : A) (x u : X) (y v : Y)
+    → length l ≡ n → n < length xs → n < length ys → ((i : ℕ) (b : A) → getElem? l i ≡ some b → P i b (getD xs i u) (getD ys i v)) → P n a x y
+    → (i : ℕ) (b : A) → getElem? (l ++ a ∷ []) i ≡ some b → P i b (getD (set xs n x) i u) (getD (set ys n y) i v)
+column-more P n l xs ys a x u y v many p q are here i b e = go (snoc-at l a b i e)
+  where
+    go : ((getElem? l i ≡ some b) × (i < length l)) ⊎ ((i ≡ length l) × (a ≡ b)) → P i b (getD (set xs n x) i u) (getD (set ys n y) i v)
+    go (inl f) =
+        let other : i ≡ n → ⊥ = λ w. omega (arith, f .1, many, w) in
+        rw (getD-set-other xs n i x u other, getD-set-other ys n i y v other) (are i b (f .0))
+    go (inr f) =
+        let same : i ≡ n = f .0 ∙ many in
+        rw (same, getD-set-same xs n x u p, getD-set-same ys n y v q, ← f .1) here
+
 -- one anchor more
-module _
-    (n : ℕ) (rows : List (List ℕ)) (cs : List Float) (small : n < 256) (w : Wide rows cs) (row : List ℕ) (x : Float)
-    (c : Levels) (buy : Bool) (l : List Stroke) (a : Stroke) (so-far : Anchors c buy l n rows cs)
-  where
-    anchors-more : AnchorAt c buy a (anchorIn row x) → Anchors c buy (l ++ a ∷ []) (n + 1) (set rows n row) (set cs n x)
-    anchors-more here =
-        record {
-          count = length-snoc l a ∙ omega (arith, so-far .count);
-          are = λ i b e. go i b (snoc-at l a b i e);
-        }
-      where
-        go :
-            (i : ℕ) (b : Stroke) → ((getElem? l i ≡ some b) × (i < length l)) ⊎ ((i ≡ length l) × (a ≡ b))
-            → AnchorAt c buy b (anchorIn (getD (set rows n row) i []) (getD (set cs n x) i nan))
-        go i b (inl v) =
-            let other : i ≡ n → ⊥ = λ e. omega (arith, v .1, so-far .count, e) in
-            rw (getD-set-other rows n i row [] other, getD-set-other cs n i x nan other) (so-far .are i b (v .0))
-        go i b (inr v) =
-            let same : i ≡ n = v .0 ∙ so-far .count in
-            rw (same, getD-set-same rows n row [] (omega (arith, w .0)), getD-set-same cs n x nan (omega (arith, w .1)), ← v .1) here
 
-module _
-    (n bar from : ℕ) (end : End) (rows : List (List ℕ)) (cs : List Float) (small : n < 256) (w : Wide rows cs) (c : Levels) (buy : Bool)
-    (l : List Stroke) (a : Stroke) (at : a .«end_bar» ≡ bar) (behind : NoneBefore c bar from) (ends : EndsBy c buy bar from end)
-    (so-far : Anchors c buy l n rows cs)
-  where
-    behind-it : NoneBefore c (a .«end_bar») from
-    behind-it = subst (λ (b : ℕ). NoneBefore c b from) (sym at) behind
+abbrev pub endPrice : End → Option Float
+endPrice Over = none
+endPrice (At next bar p) = some p
 
-    ends-it : EndsBy c buy (a .«end_bar») from end
-    ends-it = subst (λ (b : ℕ). EndsBy c buy b from end) (sym at) ends
+price-at :
+    (c : Levels) (buy : Bool) (a : Stroke) (from : ℕ) (end : End) → NoneBefore c (a .«end_bar») from → EndsBy c buy (a .«end_bar») from end
+    → anchorPrice c buy a ≡ endPrice end
+unfolding anchorPrice
+price-at c buy a from Over behind over = rw (anchorPrice, behind buy ∙ over)
+price-at c buy a from (At next bar p) behind there = rw (anchorPrice, behind buy ∙ there .3, there .2)
 
-    pub puts-nowhere : (x : Float) → end ≡ Over → Anchors c buy (l ++ a ∷ []) (n + 1) (set rows n (bar ∷ from ∷ 0 ∷ [])) (set cs n x)
-    unfolding anchorPrice
-    puts-nowhere x e =
-        let over = subst (EndsBy c buy (a .«end_bar») from) e ends-it in
-        anchors-more n rows cs small w (bar ∷ from ∷ 0 ∷ []) x c buy l a so-far
-        (record { bar = at; behind = behind-it; price = rw (anchorPrice, behind-it buy ∙ over) })
-
-    pub puts-priced :
-        (next b : ℕ) (p : Float) → end ≡ At next b p → Anchors c buy (l ++ a ∷ []) (n + 1) (set rows n (bar ∷ from ∷ 1 ∷ [])) (set cs n p)
-    unfolding anchorPrice
-    puts-priced next b p e =
-        let there = subst (EndsBy c buy (a .«end_bar») from) e ends-it in
-        anchors-more n rows cs small w (bar ∷ from ∷ 1 ∷ []) p c buy l a so-far
-        (record { bar = at; behind = behind-it; price = rw (anchorPrice, behind-it buy ∙ there .3, there .2) })
+pub puts-anchor :
+    (n bar from : ℕ) (end : End) (rows : List (List ℕ)) (cs : List Float) → n < 256 → Wide rows cs → (there : ℕ) (x : Float)
+    → endPrice end ≡ priceOf (priceIn (bar ∷ from ∷ there ∷ []) x) → PutsAnchor n bar from end rows cs (set rows n (bar ∷ from ∷ there ∷ [])) (set cs n x)
+puts-anchor n bar from end rows cs small w there x priced c buy l a at behind ends so-far =
+    let behind-it = subst (λ (b : ℕ). NoneBefore c b from) (sym at) behind in
+    let ends-it = subst (λ (b : ℕ). EndsBy c buy b from end) (sym at) ends in
+    record {
+      count = length-snoc l a ∙ omega (arith, so-far .count);
+      are =
+          column-more (λ (i : ℕ) (b : Stroke) (row : List ℕ) (p : Float). AnchorAt c buy b (anchorIn row p)) n l rows cs a (bar ∷ from ∷ there ∷ []) [] x nan
+          (so-far .count) (omega (arith, w .0)) (omega (arith, w .1)) (so-far .are)
+          (record { bar = at; behind = behind-it; price = price-at c buy a from end behind-it ends-it ∙ priced });
+    }
 
 -- ---- all rows
 
-module _ {A B : Type 0} (f : A → Option B) where
-  collect-append : (xs ys : List A) → collect f (xs ++ ys) ≡ collect f xs ++ collect f ys
-  collect-append [] ys = refl
-  collect-append (x ∷ xs) ys = go (f x) refl (collect-append xs ys)
-    where
-      go : (o : Option B) → f x ≡ o → collect f (xs ++ ys) ≡ collect f xs ++ collect f ys → collect f (x ∷ xs ++ ys) ≡ collect f (x ∷ xs) ++ collect f ys
-      go none e h = collect-none f x (xs ++ ys) e ∙ h ∙ ap (λ (l : List B). l ++ collect f ys) (sym (collect-none f x xs e))
-      go (some y) e h = collect-some f x (xs ++ ys) y e ∙ ap (λ (l : List B). y ∷ l) h ∙ ap (λ (l : List B). l ++ collect f ys) (sym (collect-some f x xs y e))
+collect-append : {A B : Type 0} (f : A → Option B) (xs ys : List A) → collect f (xs ++ ys) ≡ collect f xs ++ collect f ys
+collect-append f [] ys = refl
+collect-append {A} {B} f (x ∷ xs) ys = go (f x) refl (collect-append f xs ys)
+  where
+    go : (o : Option B) → f x ≡ o → collect f (xs ++ ys) ≡ collect f xs ++ collect f ys → collect f (x ∷ xs ++ ys) ≡ collect f (x ∷ xs) ++ collect f ys
+    go none e h = rw (collect, e, h)
+    go (some y) e h = rw (collect, e, h)
 
 -- the anchors among the first i bigs have rows, and no big before place `from` ends behind the last of them
 abbrev pub AnchorsFound : Side → List (List ℕ) → List (List Float) → List (List ℕ) → List Float → ℕ → ℕ → ℕ → ℕ → Type 0
@@ -268,19 +225,13 @@ module _
       abbrev b : Triple
       b = getD (c .bigs) i no-triple
 
-      first-bigs : take (i + 1) (c .bigs) ≡ take i (c .bigs) ++ b ∷ []
-      first-bigs = rw (add-one i) (take-suc (c .bigs) i no-triple (omega (arith, t .count)))
-
       one-more : collect (lastStroke c) (take (i + 1) (c .bigs)) ≡ collect (lastStroke c) (take i (c .bigs)) ++ collect (lastStroke c) (b ∷ [])
-      one-more =
-          ap (collect (lastStroke c)) first-bigs
-          ∙ collect-append (lastStroke c) (take i (c .bigs)) (b ∷ [])
+      one-more = rw (add-one i, take-suc (c .bigs) i no-triple (omega (arith, t .count))) (collect-append (lastStroke c) (take i (c .bigs)) (b ∷ []))
 
     pub found-missing : pointIn (getD bars i []) (getD prices i []) ≡ point.Nowhere → AnchorsFound s bars prices rows cs n last from (i + 1)
     found-missing e c t =
         let gone = no-point (lastStroke c (b c t)) (sym (point-is c (s .bigs) bars prices t i more) ∙ e) in
-        let same = one-more c t ∙ ap (λ (l : List Stroke). collect (lastStroke c) (take i (c .bigs)) ++ l) (collect-none (lastStroke c) (b c t) [] gone) ∙ append-nil _ in
-        (so-far c t .0, subst (λ (l : List Stroke). Anchors c (s .buy) l n rows cs) (sym same) (so-far c t .1))
+        (so-far c t .0, rw (one-more c t, collect, gone, append-nil) (so-far c t .1))
 
     pub found-more :
         (bar : ℕ) (x : Float) → pointIn (getD bars i []) (getD prices i []) ≡ point.At bar x
@@ -291,10 +242,7 @@ module _
     found-more bar x e place behind end next rows' cs' put c t =
         let there = point-stroke (lastStroke c (b c t)) bar x (sym (point-is c (s .bigs) bars prices t i more) ∙ e) in
         let before = behind c t (so-far c t .0) in
-        let same = one-more c t ∙ ap (λ (l : List Stroke). collect (lastStroke c) (take i (c .bigs)) ++ l) (collect-some (lastStroke c) (b c t) [] (there .0) (there .1)) in (
-          before,
-          subst (λ (l : List Stroke). Anchors c (s .buy) l (n + 1) rows' cs') (sym same) (put c (s .buy) _ (there .0) (there .2) before (next c t) (so-far c t .1)),
-        )
+        (before, rw (one-more c t, collect, there .1) (put c (s .buy) _ (there .0) (there .2) before (next c t) (so-far c t .1)))
 
 pub found-all :
     (s : Side) (bars : List (List ℕ)) (prices : List (List Float)) (rows : List (List ℕ)) (cs : List Float) (n last from i : ℕ)
@@ -302,3 +250,11 @@ pub found-all :
 found-all s bars prices rows cs n last from i so-far h k c t =
     let same : i ≡ s .anchors = omega arith in
     subst (λ (j : ℕ). Anchors c (s .buy) (collect (lastStroke c) (take j (c .bigs))) n rows cs) same (so-far c t .1)
+
+-- anchor i of the table
+pub anchor-here :
+    (c : Levels) (buy : Bool) (l : List Stroke) (n : ℕ) (rows : List (List ℕ)) (cs : List Float) → Anchors c buy l n rows cs → (i : ℕ) → i < n
+    → (x : Anchor) → x ≡ anchorIn (getD rows i []) (getD cs i nan) → AnchorAt c buy (getD l i no-stroke) x
+anchor-here c buy l n rows cs t i h x e =
+    let (a, f) = lt-at l i (omega (arith, t .count)) in
+    rw (e, at-getD l i no-stroke a f) (t .are i a f)

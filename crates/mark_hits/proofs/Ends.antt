@@ -24,22 +24,6 @@ use Rattle.mark_hits.specs.declared.End.{End}
 use Rattle.mark_hits.specs.declared.End.the-variants as end
 use Rattle.mark_hits.specs.Anchors.{endsIn, LaterEnd}
 
--- ---- lists
-
-module _ {A : Type 0} (p : A → Bool) (x : A) (xs : List A) where
-  pub keep-yes : p x ≡ true → keep p (x ∷ xs) ≡ x ∷ keep p xs
-  keep-yes e = rw (keep, e)
-
-  pub keep-no : p x ≡ false → keep p (x ∷ xs) ≡ keep p xs
-  keep-no e = rw (keep, e)
-
-module _ {A B : Type 0} (f : A → Option B) (x : A) (xs : List A) where
-  pub collect-some : (y : B) → f x ≡ some y → collect f (x ∷ xs) ≡ y ∷ collect f xs
-  collect-some y e = rw (collect, e)
-
-  pub collect-none : f x ≡ none → collect f (x ∷ xs) ≡ collect f xs
-  collect-none e = rw (collect, e)
-
 -- ---- one big and those behind it
 
 module _ (c : Levels) (up : Bool) (bar : ℕ) (b : Triple) (bs : List Triple) where
@@ -49,32 +33,26 @@ module _ (c : Levels) (up : Bool) (bar : ℕ) (b : Triple) (bs : List Triple) wh
   abbrev along : Triple → Bool
   along t = Bool·beq (isUp (t .direction)) up
 
-  abbrev ends : List Triple → List Stroke
-  ends l = keep later (collect (lastStroke c) l)
-
   end-other : along b ≡ false → endsIn c up bar (b ∷ bs) ≡ endsIn c up bar bs
-  end-other e = ap ends (keep-no along b bs e)
+  end-other e = rw (keep, e)
 
   -- a big that ends nowhere, or no later than the bar, of whatever direction
-  end-passed : ends (b ∷ keep along bs) ≡ ends (keep along bs) → endsIn c up bar (b ∷ bs) ≡ endsIn c up bar bs
+  end-passed : (along b ≡ true → endsIn c up bar (b ∷ bs) ≡ endsIn c up bar bs) → endsIn c up bar (b ∷ bs) ≡ endsIn c up bar bs
   end-passed pass = go (along b) refl
     where
       go : (t : Bool) → along b ≡ t → endsIn c up bar (b ∷ bs) ≡ endsIn c up bar bs
-      go true e = ap ends (keep-yes along b bs e) ∙ pass
+      go true e = pass e
       go false e = end-other e
 
   end-none : lastStroke c b ≡ none → endsIn c up bar (b ∷ bs) ≡ endsIn c up bar bs
-  end-none n = end-passed (ap (keep later) (collect-none (lastStroke c) b (keep along bs) n))
+  end-none n = end-passed (λ e. rw (keep, e, collect, n))
 
   module _ (s : Stroke) (found : lastStroke c b ≡ some s) where
-    ends-with : ends (b ∷ keep along bs) ≡ keep later (s ∷ collect (lastStroke c) (keep along bs))
-    ends-with = ap (keep later) (collect-some (lastStroke c) b (keep along bs) s found)
-
     end-soon : later s ≡ false → endsIn c up bar (b ∷ bs) ≡ endsIn c up bar bs
-    end-soon l = end-passed (ends-with ∙ keep-no later s (collect (lastStroke c) (keep along bs)) l)
+    end-soon l = end-passed (λ e. rw (keep, e, collect, found, l))
 
     end-here : along b ≡ true → later s ≡ true → endsIn c up bar (b ∷ bs) ≡ s ∷ endsIn c up bar bs
-    end-here e l = ap ends (keep-yes along b bs e) ∙ ends-with ∙ keep-yes later s (collect (lastStroke c) (keep along bs)) l
+    end-here e l = rw (keep, e, collect, found, l)
 
 -- an end point that is read is that of a stroke
 nowhere-at : {b : ℕ} {x : Float} → Nowhere ≡ At b x → ⊥

@@ -1,9 +1,9 @@
 -- Hits: a lent price that is beyond the price p, at a bar inside the slice. Assumes nothing.
 use Prim.Native.Nat.{ℕ}
 use mathlib.Core.Path.{_≡_, refl, sym, ap, _∙_}
-use mathlib.Core.Bool.{Bool, true, false, cond, not, true≢false, false≢true}
+use mathlib.Core.Bool.{Bool, true, false, cond, not}
 use mathlib.Core.List.{List, [], _∷_}
-use mathlib.Core.Option.{Option, some}
+use mathlib.Core.Option.{Option, none, some}
 use lib.Ieee.{Float, nan, lt}
 use Rattle.rules.specs.Lists.{find, isNone}
 use Rattle.rules.specs.Records.{Quotes}
@@ -48,18 +48,28 @@ module _ (q : Quotes) (buy : Bool) (p : Float) (bar : ℕ) (o : Quote) (there : 
     pub quote-missed : t ≡ false → LentPrice q buy Nothing × (find (beats q buy p) (bar ∷ []) ≡ hitBar Nothing)
     quote-missed h = (tt, find-no (beats q buy p) bar [] (tested ∙ h))
 
--- a hit at the first bar of some, and none
-module _ (p : ℕ → Bool) (bar : ℕ) (bars : List ℕ) (h : Hit) (tried : find p (bar ∷ []) ≡ hitBar h) (t : Bool) (test : t ≡ not (isNone (hitBar h))) where
-  pub hit-first : t ≡ true → find p (bar ∷ bars) ≡ hitBar h
-  hit-first e = go (p bar) refl tried
-    where
-      go : (u : Bool) → p bar ≡ u → find p (bar ∷ []) ≡ hitBar h → find p (bar ∷ bars) ≡ hitBar h
-      go true f k = find-yes p bar bars f ∙ sym (find-yes p bar [] f) ∙ k
-      go false f k = absurd (false≢true (sym (test ∙ ap (λ (o : Option ℕ). not (isNone o)) (sym k ∙ find-no p bar [] f)) ∙ e))
+-- whether there is a hit at a bar is the test of the bar
+pub hit-test : (p : ℕ → Bool) (bar : ℕ) (h : Hit) → find p (bar ∷ []) ≡ hitBar h → (t : Bool) → t ≡ not (isNone (hitBar h)) → p bar ≡ t
+hit-test p bar h tried t test = go (p bar) refl
+  where
+    go : (u : Bool) → p bar ≡ u → p bar ≡ t
+    go true f = f ∙ sym (test ∙ ap (λ (o : Option ℕ). not (isNone o)) (sym tried ∙ find-yes p bar [] f))
+    go false f = f ∙ sym (test ∙ ap (λ (o : Option ℕ). not (isNone o)) (sym tried ∙ find-no p bar [] f))
 
-  pub hit-later : t ≡ false → find p (bar ∷ bars) ≡ find p bars
-  hit-later e = go (p bar) refl tried
+-- the bars l are left to try
+module _ (p : ℕ → Bool) (l : List ℕ) (goal : Option ℕ) (left : goal ≡ find p l) where
+  pub hits-over : l ≡ [] → goal ≡ none
+  hits-over e = left ∙ ap (find p) e
+
+  -- their first is tried
+  module _
+      (bar : ℕ) (bars : List ℕ) (first : l ≡ bar ∷ bars) (h : Hit) (tried : find p (bar ∷ []) ≡ hitBar h) (t : Bool)
+      (test : t ≡ not (isNone (hitBar h)))
     where
-      go : (u : Bool) → p bar ≡ u → find p (bar ∷ []) ≡ hitBar h → find p (bar ∷ bars) ≡ find p bars
-      go true f k = absurd (true≢false (sym (test ∙ ap (λ (o : Option ℕ). not (isNone o)) (sym k ∙ find-yes p bar [] f)) ∙ e))
-      go false f k = find-no p bar bars f
+      pub hit-first : t ≡ true → goal ≡ hitBar h
+      hit-first e =
+          let yes = hit-test p bar h tried t test ∙ e in
+          left ∙ ap (find p) first ∙ find-yes p bar bars yes ∙ sym (find-yes p bar [] yes) ∙ tried
+
+      pub hit-later : t ≡ false → goal ≡ find p bars
+      hit-later e = left ∙ ap (find p) first ∙ find-no p bar bars (hit-test p bar h tried t test ∙ e)

@@ -1,54 +1,32 @@
 -- Lent prices: what stands at a bar, and 8 and 1 of the slices. Assumes nothing.
-use Prim.Native.Nat.{ℕ, zero, suc, _<_, _≤_}
-use native.Mathlib.Omega.{arith}
-use mathlib.Core.Path.{_≡_, refl}
+use Prim.Native.Nat.{ℕ, _<_, _≤_}
+use mathlib.Core.Path.{_≡_, refl, sym}
 use mathlib.Core.Bool.{Bool, true, false, not, _&&_, _||_}
-use mathlib.Core.List.{List, [], _∷_}
+use mathlib.Core.List.{List}
 use mathlib.Core.Option.{none, some}
-use lib.ListN.{length, getD, getElem?}
+use lib.ListN.{length, getD}
+use lib.Seq.{take-length}
 use lib.Ieee.{Float, nan}
 use borrow.Author.Tests.{lt-ltb, le-ltb, eq-eqb, ne-eqb}
 use Rattle.price.specs.Price.{allPrices}
 use Rattle.rules.specs.Records.{Quotes}
-use Rattle.rules.specs.Marks.{quote}
+use Rattle.rules.specs.Marks.{side, quote}
 use Rattle.rules.specs.Refusals.{refuse, unequal, badSlices, badQuotes}
+use Rattle.laws.proofs.Arrays.{at-in, at-out}
 use Rattle.mark_hits.specs.Found.{quotesRefusal}
 
-module _ (highs lows : List Float) (buy : Bool) (bar : ℕ) where
-  abbrev q : Quotes
-  q = record { highs = highs; lows = lows }
+-- at a bar outside the slice of the side u, and inside
+module _ (q : Quotes) (buy : Bool) (bar : ℕ) (u : Bool) (is : buy ≡ u) where
+  abbrev own : List Float
+  own = side q u
 
-  at-bar : (l : List Float) → bar < length l → some (getD l bar nan) ≡ getElem? l bar
-  at-bar l h = go l bar h
-    where
-      go : (l : List Float) (i : ℕ) → i < length l → some (getD l i nan) ≡ getElem? l i
-      go [] i k = absurd (omega arith)
-      go (x ∷ l) zero k = refl
-      go (x ∷ l) (suc i) k = go l i (omega arith)
-
-  no-bar : (l : List Float) → length l ≤ bar → none ≡ getElem? l bar
-  no-bar l h = go l bar h
-    where
-      go : (l : List Float) (i : ℕ) → length l ≤ i → none ≡ getElem? l i
-      go [] i k = refl
-      go (x ∷ l) zero k = absurd (omega arith)
-      go (x ∷ l) (suc i) k = go l i (omega arith)
-
-  pub buy-outside : buy ≡ true → length lows ≤ bar → none ≡ quote q buy bar
+  pub quote-outside : length own ≤ bar → none ≡ quote q buy bar
   unfolding quote
-  buy-outside e h = rw e (no-bar lows h)
+  quote-outside h = rw is (sym (rw (take-length own) at (at-out (length own) bar own h)))
 
-  pub buy-inside : buy ≡ true → bar < length lows → some (getD lows bar nan) ≡ quote q buy bar
+  pub quote-inside : bar < length own → some (getD own bar nan) ≡ quote q buy bar
   unfolding quote
-  buy-inside e h = rw e (at-bar lows h)
-
-  pub sell-outside : buy ≡ false → length highs ≤ bar → none ≡ quote q buy bar
-  unfolding quote
-  sell-outside e h = rw e (no-bar highs h)
-
-  pub sell-inside : buy ≡ false → bar < length highs → some (getD highs bar nan) ≡ quote q buy bar
-  unfolding quote
-  sell-inside e h = rw e (at-bar highs h)
+  quote-inside h = rw is (sym (rw (take-length own) at (at-in (length own) bar own nan h h)))
 
 -- ---- 8 and 1
 

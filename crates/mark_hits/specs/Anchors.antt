@@ -62,9 +62,8 @@ barsIn c buy bar bs = map (λ (s : Stroke). s .«end_bar») (endsIn c (not buy) 
 abbrev pub anchorsIn : Levels → Side → List Stroke
 anchorsIn c s = collect (lastStroke c) (take (s .anchors) (c .bigs))
 
--- how many bigs there are, how many of the first are looked at for anchors, and the anchors' side: those of these levels
+-- how many of the first bigs are looked at for anchors, and the anchors' side: those of these levels
 pub record Anchoring (c : Levels) (s : Side) : Type 0 where
-  pub bigs : length (c .bigs) ≡ s .bigs
   pub anchors : anchorsIn c s ≡ anchorsOf c (c .superiors)
   pub buy : s .buy ≡ anchorSide (c .superiors)
 

@@ -106,7 +106,7 @@ pub enum End {
 }
 
 // Whether a direction is this one.
-fn is_way(way: u16, up: bool) -> bool
+pub fn is_way(way: u16, up: bool) -> bool
     ensures { λ r. ⌜ r ≡ Bool·beq (isUp way) up ⌝ }
 {
     (way == 1) == up

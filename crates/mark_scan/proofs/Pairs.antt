@@ -22,33 +22,7 @@ use Rattle.tables.specs.Tables.{Bigs, rangeIn}
 use Rattle.tables.proofs.Bigs.{way-is, range-is}
 use Rattle.mark_scan.specs.declared.Pair.{Pair}
 use Rattle.mark_scan.specs.declared.Pair.the-variants as pair
-use Rattle.mark_scan.specs.Scan.{Limits, Later}
-
--- ---- two bigs and those behind them
-
-module _ (c : Levels) (stop : ℕ → Bool) (d : ℕ) (k n : Triple) (bs : List Triple) where
-  pair-missing : rangeOf c n ≡ Missing → pairEnds c stop d (k ∷ n ∷ bs) ≡ []
-  unfolding pairEnds
-  pair-missing e = rw (pairEnds, e)
-
-  module _ (s : Span) (found : rangeOf c n ≡ Found s) where
-    pair-over : stop (s .«end_bar») ≡ true → pairEnds c stop d (k ∷ n ∷ bs) ≡ []
-    unfolding pairEnds
-    pair-over h = rw (pairEnds, found, h)
-
-    pair-at : stop (s .«end_bar») ≡ false → k .direction ≡ d → pairEnds c stop d (k ∷ n ∷ bs) ≡ s .«end_bar» ∷ pairEnds c stop d (n ∷ bs)
-    unfolding pairEnds
-    pair-at h w = rw (pairEnds, found, h, eq-eqb _ _ w)
-
-    pair-skip : stop (s .«end_bar») ≡ false → (k .direction ≡ d → ⊥) → pairEnds c stop d (k ∷ n ∷ bs) ≡ pairEnds c stop d (n ∷ bs)
-    unfolding pairEnds
-    pair-skip h w = rw (pairEnds, found, h, ne-eqb _ _ w)
-
-pair-none : (c : Levels) (stop : ℕ → Bool) (d : ℕ) (bs : List Triple) → length bs ≤ 1 → pairEnds c stop d bs ≡ []
-unfolding pairEnds
-pair-none c stop d [] h = refl
-pair-none c stop d (k ∷ []) h = refl
-pair-none c stop d (k ∷ n ∷ bs) h = absurd (omega arith)
+use Rattle.mark_scan.specs.Scan.{Limits, pairsBy, Later}
 
 -- ---- the pairs from big k on are left
 
@@ -57,7 +31,13 @@ module _
     (limits : Limits limit stop) (goal : List ℕ) (left : goal ≡ pairEnds c stop d (drop k (c .bigs)))
   where
     pub pairs-none : m ≤ k + 1 → goal ≡ []
-    pairs-none h = left ∙ pair-none c stop d (drop k (c .bigs)) (omega (arith, length-drop k (c .bigs), t .count))
+    unfolding pairEnds
+    pairs-none h = go (drop k (c .bigs)) (omega (arith, length-drop k (c .bigs), t .count)) left
+      where
+        go : (bs : List Triple) → length bs ≤ 1 → goal ≡ pairEnds c stop d bs → goal ≡ []
+        go [] few e = e
+        go (b ∷ []) few e = e
+        go (b ∷ n ∷ bs) few e = absurd (omega arith)
 
     module _ (more : k + 1 < m) where
       abbrev here : Triple
@@ -75,24 +55,37 @@ module _
       both : goal ≡ pairEnds c stop d (here ∷ next ∷ rest)
       both = rw (← behind, add-one k, ← drop-cons (c .bigs) k no-triple (omega (arith, t .count))) left
 
+      range : rangeIn (getD bars (k + 1) []) (getD prices (k + 1) []) ≡ rangeOf c next
+      range = range-is c m bars prices t (k + 1) more
+
       pub pairs-missing : rangeIn (getD bars (k + 1) []) (getD prices (k + 1) []) ≡ Missing → goal ≡ []
-      pairs-missing e = both ∙ pair-missing c stop d here next rest (sym (range-is c m bars prices t (k + 1) more) ∙ e)
+      unfolding pairEnds
+      pairs-missing e = rw (pairEnds, sym range ∙ e) at both
 
       module _ (s : Span) (found : rangeIn (getD bars (k + 1) []) (getD prices (k + 1) []) ≡ Found s) (small : s .«end_bar» < 0x1_0000) where
-        own : rangeOf c next ≡ Found s
-        own = sym (range-is c m bars prices t (k + 1) more) ∙ found
-
         way : getD (getD bars k []) 0 0 ≡ here .direction
         way = way-is c m bars prices t k (omega arith)
 
         pub pairs-over : limit ≤ s .«end_bar» → goal ≡ []
-        pairs-over h = both ∙ pair-over c stop d here next rest s own (limits _ small ∙ le-leb _ _ h)
+        unfolding pairEnds
+        pairs-over h = rw (pairEnds, sym range ∙ found, limits _ small ∙ le-leb _ _ h) at both
 
-        pub pairs-at : s .«end_bar» < limit → getD (getD bars k []) 0 0 ≡ d → goal ≡ s .«end_bar» ∷ pairEnds c stop d (drop (k + 1) (c .bigs))
-        pairs-at h e = rw behind (both ∙ pair-at c stop d here next rest s own (limits _ small ∙ lt-leb _ _ h) (sym way ∙ e))
+        module _ (h : s .«end_bar» < limit) where
+          pub pairs-at : getD (getD bars k []) 0 0 ≡ d → goal ≡ s .«end_bar» ∷ pairEnds c stop d (drop (k + 1) (c .bigs))
+          unfolding pairEnds
+          pairs-at e = rw behind (rw (pairEnds, sym range ∙ found, limits _ small ∙ lt-leb _ _ h, eq-eqb _ _ (sym way ∙ e)) at both)
 
-        pub pairs-skip : s .«end_bar» < limit → (getD (getD bars k []) 0 0 ≡ d → ⊥) → goal ≡ pairEnds c stop d (drop (k + 1) (c .bigs))
-        pairs-skip h n = rw behind (both ∙ pair-skip c stop d here next rest s own (limits _ small ∙ lt-leb _ _ h) (λ e. n (way ∙ e)))
+          pub pairs-skip : (getD (getD bars k []) 0 0 ≡ d → ⊥) → goal ≡ pairEnds c stop d (drop (k + 1) (c .bigs))
+          unfolding pairEnds
+          pairs-skip n = rw behind (rw (pairEnds, sym range ∙ found, limits _ small ∙ lt-leb _ _ h, ne-eqb _ _ (λ e. n (way ∙ e))) at both)
+
+-- the bars of the pairs, by the next one
+module _ (f : List Triple → List ℕ) (bs : List Triple) (l : List ℕ) (r : Pair) (pairs : l ≡ pairsBy f bs r) where
+  pub pair-over : r ≡ pair.Over → l ≡ []
+  pair-over e = pairs ∙ ap (pairsBy f bs) e
+
+  pub pair-next : (next bar : ℕ) → r ≡ pair.At next bar → l ≡ bar ∷ f (drop next bs)
+  pair-next next bar e = pairs ∙ ap (pairsBy f bs) e
 
 -- the place of the next pair lies behind this one, and within m
 pub pair-later : (from m : ℕ) (r : Pair) (next bar : ℕ) → Later from m r → r ≡ pair.At next bar → (from < next) × (next ≤ m) × (bar < 0x1_0000)

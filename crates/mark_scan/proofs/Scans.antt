@@ -9,13 +9,13 @@ use mathlib.Core.Logic.{inl, inr}
 use mathlib.Core.Option.{Option, none, some}
 use lib.ListN.{length, getD, getElem?, set, drop}
 use lib.Seq.{getD-set-same, getD-set-other}
-use lib.Dec.{eqb, leb}
+use lib.Dec.{eqb}
 use lib.Ieee.{Float}
 use borrow.Author.Tests.{lt-leb, eqb-true, eqb-false}
 use Rattle.chart.specs.declared.Stroke.{Stroke}
 use Rattle.chart.specs.declared.Zone.{Zone}
 use Rattle.rules.specs.Records.{Levels}
-use Rattle.rules.specs.Marks.{superiorOf, leaving, reversal, reaches, stops}
+use Rattle.rules.specs.Marks.{superiorOf, leaving, reversal, reaches, stops, pairEnds, scanned}
 use Rattle.rules.specs.Zones.{overlapZones}
 use Rattle.laws.proofs.Lists.{all-at, at-getD, lt-at, at-lt}
 use Rattle.laws.proofs.Owned.{zones-owned}
@@ -23,14 +23,15 @@ use Rattle.tables.specs.declared.Counts.{Counts}
 use Rattle.tables.specs.Tables.{Sups, Tables}
 use Rattle.tables.proofs.Sups.{triple-is}
 use Rattle.tables.proofs.Zones.{no-zone, owner-of, end-of}
-use Rattle.mark_scan.specs.Scan.{NextZone, OwnersBelow, StartsAt, reversalIn, limitOf, ScanOf, ScannedTo, SearchFrom, Scanned}
+use Rattle.mark_scan.specs.declared.Scan.{Scan}
+use Rattle.mark_scan.specs.Scan.{Limits, NextZone, OwnersBelow, StartsAt, reversalIn, limitOf, ZoneScan, ScanOf, ScannedTo, SearchFrom, Scanned}
 use Rattle.mark_scan.proofs.Stops.{leb-min}
 use Rattle.mark_scan.proofs.Pairs.{leave-from}
 
 -- ---- one zone
 
 -- the end bar of a stroke is the limit where it is there
-stroke-limit : (o : Option Stroke) (bar : ℕ) → bar < 0x1_0000 → reaches o bar ≡ leb (limitOf o) bar
+pub stroke-limit : (o : Option Stroke) → Limits (limitOf o) (reaches o)
 unfolding reaches
 stroke-limit none bar below = sym (lt-leb 0x1_0000 bar below)
 stroke-limit (some s) bar below = refl
@@ -130,6 +131,13 @@ module _ (n : Counts) (bars : List (List ℕ)) (prices : List (List Float)) (sup
       }
 
 -- ---- for users
+
+-- what a zone's scan meets
+pub scanned-is :
+    (c : Levels) (zs : List Zone) (z : Zone) (s : Scan) → ZoneScan c zs z s
+    → scanned c zs z ≡ pairEnds c (stops c zs z) (s .direction) (drop (s .from) (c .bigs))
+unfolding scanned
+scanned-is c zs z s scan = rw (scanned, scan .begins, scan .way)
 
 -- the zones of a chart's tables are of its superiors
 pub tables-owners :

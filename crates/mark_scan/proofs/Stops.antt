@@ -3,7 +3,7 @@ use Prim.Native.Nat.{ℕ, zero, suc, _+_, _-_, _%_, _<_, _≤_, min}
 use native.Mathlib.Omega.{arith}
 use native.Mathlib.Numerals.{add-one}
 use mathlib.Core.Path.{_≡_, refl, sym, ap, _∙_}
-use mathlib.Core.Bool.{Bool, true, false, cond, not, _&&_, _||_, and-false, false≢true, or-assoc, or-false}
+use mathlib.Core.Bool.{Bool, true, false, cond, not, _&&_, _||_, and-false, or-assoc, or-false}
 use mathlib.Core.List.{List, [], _∷_}
 use mathlib.Core.Option.{Option, none, some}
 use lib.ListN.{getD, drop, drop-of-length-le}
@@ -180,59 +180,45 @@ module _ (n : ℕ) (zb : List (List ℕ)) (h e : ℕ) where
 -- ---- starts_rise
 
 -- the start bars of the first i zones never fall, and none is above `last`
-pub record Risen (zb : List (List ℕ)) (i last : ℕ) : Type 0 where
-  pub most : (k : ℕ) → k < i → getD (getD zb k []) 1 0 ≤ last
-  pub rise : StartsRise i zb
-
-pub risen-none : (zb : List (List ℕ)) (last : ℕ) → Risen zb 0 last
-risen-none zb last = record { most = λ k h. absurd (omega arith); rise = λ i j h w. absurd (omega arith) }
+abbrev pub Risen : List (List ℕ) → ℕ → ℕ → Type 0
+Risen zb i last =
+    (j k : ℕ) → j ≤ k → k < i → (getD (getD zb j []) 1 0 ≤ getD (getD zb k []) 1 0) × (getD (getD zb k []) 1 0 ≤ last)
 
 pub risen-next :
     (zb : List (List ℕ)) (i last : ℕ) → last ≤ getD (getD zb i []) 1 0 → Risen zb i last → Risen zb (i + 1) (getD (getD zb i []) 1 0)
-risen-next zb i last up b = record { most = most; rise = rise }
+risen-next zb i last up b j k h w = go (leb i k) refl (leb i j) refl
   where
-    most : (k : ℕ) → k < i + 1 → getD (getD zb k []) 1 0 ≤ getD (getD zb i []) 1 0
-    most k h = go (leb i k) refl
-      where
-        go : (t : Bool) → leb i k ≡ t → getD (getD zb k []) 1 0 ≤ getD (getD zb i []) 1 0
-        go true f = let same : k ≡ i = omega (arith, leb-true i k f) in rw same (omega arith)
-        go false f = let m = b .most k (leb-false i k f) in omega arith
-
-    rise : StartsRise (i + 1) zb
-    rise j k h w = go (leb i k) refl
-      where
-        go : (t : Bool) → leb i k ≡ t → getD (getD zb j []) 1 0 ≤ getD (getD zb k []) 1 0
-        go true f = let same : k ≡ i = omega (arith, leb-true i k f) in rw same (most j (omega arith))
-        go false f = b .rise j k h (leb-false i k f)
+    go :
+        (t : Bool) → leb i k ≡ t → (u : Bool) → leb i j ≡ u
+        → (getD (getD zb j []) 1 0 ≤ getD (getD zb k []) 1 0) × (getD (getD zb k []) 1 0 ≤ getD (getD zb i []) 1 0)
+    go true f true g =
+        let last-one : k ≡ i = omega (arith, leb-true i k f) in
+        let same : j ≡ i = omega (arith, leb-true i j g) in
+        rw (last-one, same) (omega arith, omega arith)
+    go true f false g =
+        let last-one : k ≡ i = omega (arith, leb-true i k f) in
+        rw last-one (omega (arith, b j j (omega arith) (leb-false i j g) .1, up), omega arith)
+    go false f u g = let two = b j k h (leb-false i k f) in (two .0, omega (arith, two .1, up))
 
 -- ---- superiors
 
 -- the superior t, whose end bar is `end` where `there` is not 0, and those behind it
-module _ (c : Levels) (d e : ℕ) (t : Triple) (ts : List Triple) (there end : ℕ) (ends : cond (eqb there 0) none (some end) ≡ barOf (superiorEnd c t)) where
-  abbrev turn : Bool
-  turn = not (eqb there 0) && not (eqb (t .direction) d) && ltb e end
-
-  turn-here : turn ≡ true → limitOf (reversalIn c d e (t ∷ ts)) ≡ end
-  turn-here k = go (eqb there 0) refl (eqb (t .direction) d) refl (superiorEnd c t) refl k ends
-    where
-      go :
-          (v : Bool) → eqb there 0 ≡ v → (u : Bool) → eqb (t .direction) d ≡ u → (o : Option Stroke) → superiorEnd c t ≡ o
-          → (not v && not u && ltb e end) ≡ true → cond v none (some end) ≡ barOf o → limitOf (reversalIn c d e (t ∷ ts)) ≡ end
-      go true g u f o s later same = absurd (false≢true later)
-      go false g true f o s later same = absurd (false≢true later)
-      go false g false f none s later same = absurd (none-some (sym same))
-      go false g false f (some x) s later same = let bar : x .«end_bar» ≡ end = cc in rw (f, collect, s, find, bar, later) bar
-
-  turn-pass : turn ≡ false → reversalIn c d e (t ∷ ts) ≡ reversalIn c d e ts
-  turn-pass k = go (eqb there 0) refl (eqb (t .direction) d) refl (superiorEnd c t) refl k ends
-    where
-      go :
-          (v : Bool) → eqb there 0 ≡ v → (u : Bool) → eqb (t .direction) d ≡ u → (o : Option Stroke) → superiorEnd c t ≡ o
-          → (not v && not u && ltb e end) ≡ false → cond v none (some end) ≡ barOf o → reversalIn c d e (t ∷ ts) ≡ reversalIn c d e ts
-      go v g true f o s later same = rw f
-      go v g false f none s later same = rw (f, collect, s)
-      go true g false f (some x) s later same = absurd (none-some same)
-      go false g false f (some x) s later same = let bar : x .«end_bar» ≡ end = cc in rw (f, collect, s, find, bar, later)
+turn-first :
+    (c : Levels) (d e : ℕ) (t : Triple) (ts : List Triple) (there end : ℕ) → cond (eqb there 0) none (some end) ≡ barOf (superiorEnd c t)
+    → limitOf (reversalIn c d e (t ∷ ts))
+    ≡ cond (not (eqb there 0) && not (eqb (t .direction) d) && ltb e end) end (limitOf (reversalIn c d e ts))
+turn-first c d e t ts there end ends = go (eqb there 0) (eqb (t .direction) d) refl (superiorEnd c t) refl (ltb e end) refl ends
+  where
+    go :
+        (v u : Bool) → eqb (t .direction) d ≡ u → (o : Option Stroke) → superiorEnd c t ≡ o → (w : Bool) → ltb e end ≡ w
+        → cond v none (some end) ≡ barOf o
+        → limitOf (reversalIn c d e (t ∷ ts)) ≡ cond (not v && not u && w) end (limitOf (reversalIn c d e ts))
+    go v true f o s w l same = rw (f, and-false)
+    go true false f none s w l same = rw (f, collect, s)
+    go true false f (some x) s w l same = absurd (none-some same)
+    go false false f none s w l same = absurd (none-some (sym same))
+    go false false f (some x) s true l same = let bar : x .«end_bar» ≡ end = cc in rw (f, collect, s, find, bar, l) bar
+    go false false f (some x) s false l same = let bar : x .«end_bar» ≡ end = cc in rw (f, collect, s, find, bar, l)
 
 -- the superiors from place i on are left to look at
 module _
@@ -260,11 +246,11 @@ module _
       way = ap (λ (x : Triple). x .direction) (triple-is c n sups t i h)
 
       module _ (r : Bool) (test : r ≡ (not (eqb (getD row 3 0) 0) && not (eqb (getD row 0 0) d) && ltb e (getD row 4 0))) where
-        turned : (not (eqb (getD row 3 0) 0) && not (eqb (s .direction) d) && ltb e (getD row 4 0)) ≡ r
-        turned = sym (rw way at test)
+        tried : goal ≡ cond r (getD row 4 0) (limitOf (reversalIn c d e (drop (i + 1) (c .superiors))))
+        tried = rw one at left ∙ rw (test, way) (turn-first c d e s (drop (i + 1) (c .superiors)) (getD row 3 0) (getD row 4 0) ending)
 
         pub reversal-here : r ≡ true → getD row 4 0 ≡ goal
-        reversal-here f = sym (rw one at left ∙ turn-here c d e s (drop (i + 1) (c .superiors)) (getD row 3 0) (getD row 4 0) ending (turned ∙ f))
+        reversal-here f = sym (rw f at tried)
 
         pub reversal-pass : r ≡ false → goal ≡ limitOf (reversalIn c d e (drop (i + 1) (c .superiors)))
-        reversal-pass f = rw one at left ∙ ap limitOf (turn-pass c d e s (drop (i + 1) (c .superiors)) (getD row 3 0) (getD row 4 0) ending (turned ∙ f))
+        reversal-pass f = rw f at tried

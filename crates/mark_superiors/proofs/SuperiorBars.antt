@@ -1,40 +1,30 @@
 -- The bars of a superior's zones, one zone after the other. Assumes nothing.
-use Prim.Native.Nat.{ℕ, zero, suc, _+_, _<_, _≤_}
+use Prim.Native.Nat.{ℕ, _+_, _<_, _≤_}
 use native.Mathlib.Omega.{arith}
-use native.Mathlib.Numerals.{add-one}
 use mathlib.Core.Path.{_≡_, refl, sym, ap, subst, _∙_}
-use mathlib.Core.Bool.{Bool}
 use mathlib.Core.List.{List, [], _∷_, _++_, foldl, foldl-append}
 use mathlib.Core.Option.{some}
 use lib.ListN.{length, getD, getElem?, take, drop, drop-of-length-le}
+use lib.Seq.{drop-drop}
 use lib.Ieee.{Float}
 use lib.Dec.{leb}
 use Rattle.chart.specs.declared.Zone.{Zone}
 use Rattle.rules.specs.Lists.{each}
 use Rattle.rules.specs.Records.{Levels}
 use Rattle.rules.specs.Zones.{overlapZones}
-use Rattle.rules.specs.Marks.{pairEnds, scanned, insertBar}
+use Rattle.rules.specs.Marks.{scanned, insertBar}
 use Rattle.laws.proofs.Lists.{All, lt-at, at-drop, all-at, all-right}
 use Rattle.laws.specs.Lists.{endBars}
 use Rattle.tables.specs.declared.Counts.{Counts}
 use Rattle.mark_scan.specs.declared.Scan.{Scan}
-use Rattle.mark_scan.specs.Scan.{Limits, ZoneScan, scanIn, Scanned}
+use Rattle.mark_scan.specs.Scan.{ZoneScan, scanIn, Scanned}
+use Rattle.mark_scan.proofs.Scans.{scanned-is}
 use Rattle.mark_superiors.specs.Superiors.{RisingAmong, PutsPairs, Block, TakesBlock}
 use Rattle.mark_superiors.proofs.ZoneBars.{among-more, pairs-end}
 
 -- what is left of a list from place i on: its element there, and those behind it
-front : (i : ℕ) (l : List Zone) (x : Zone) (xs : List Zone) → drop i l ≡ x ∷ xs → (getElem? l i ≡ some x) × (drop (suc i) l ≡ xs)
-front zero [] x xs e = absurd (omega (arith, ap (λ (m : List Zone). length m) e))
-front zero (y ∷ l) x xs e = (cc, cc)
-front (suc i) [] x xs e = absurd (omega (arith, ap (λ (m : List Zone). length m) e))
-front (suc i) (y ∷ l) x xs e = front i l x xs e
-
--- a zone's scan by its row
-scanned-by :
-    (c : Levels) (zs : List Zone) (z : Zone) (s : Scan) → ZoneScan c zs z s → (l : List ℕ) (g : List ℕ → List ℕ)
-    → ((stop : ℕ → Bool) → Limits (s .limit) stop → l ≡ g (pairEnds c stop (s .direction) (drop (s .from) (c .bigs)))) → l ≡ g (scanned c zs z)
-unfolding scanned
-scanned-by c zs z s scan l g e = rw (scanned, scan .begins, scan .way) (e _ (scan .ends))
+front : (i : ℕ) (l : List Zone) (x : Zone) (xs : List Zone) → drop i l ≡ x ∷ xs → (getElem? l i ≡ some x) × (drop (i + 1) l ≡ xs)
+front i l x xs e = let same : i + 0 ≡ i = omega arith in (sym (rw (e, same) at (at-drop i 0 l)), sym (rw e at (drop-drop 1 i l)))
 
 -- of a superior's own zones these are left at place i
 pub record OwnLeft (c : Levels) (h : ℕ) (own later : List Zone) (out : List ℕ) (k i : ℕ) : Type 0 where
@@ -122,10 +112,10 @@ module _ (h : ℕ) (scans : List (List ℕ)) (n : Counts) (from : ℕ) (bars : L
                 let behind = each (scanned c (overlapZones c)) rest in
                 let there = front i (overlapZones c) z (rest ++ later) (b .stand) in
                 let its = by-row c sups s z (there .0) in
-                let met = scanned-by c (overlapZones c) z scan its (take r out') (foldl insertBar (take k out)) (λ stop lim. put c stop (s .bigs) lim) in
+                let met = put c _ (s .bigs) (its .ends) ∙ ap (foldl insertBar (take k out)) (sym (scanned-is c (overlapZones c) z scan its)) in
                 record {
                   rest = rest;
-                  block = record { stand = rw (add-one i) (there .1); owned = all-right (z ∷ []) rest (b .owned); above = b .above };
+                  block = record { stand = there .1; owned = all-right (z ∷ []) rest (b .owned); above = b .above };
                   bars =
                       ap (λ (l : List ℕ). foldl insertBar l behind) met
                       ∙ sym (foldl-append insertBar (take k out) (scanned c (overlapZones c) z) behind)

@@ -19,7 +19,8 @@ use Rattle.tables.specs.Tables.{Bigs}
 use Rattle.mark_scan.specs.declared.Pair.{Pair}
 use Rattle.mark_scan.specs.declared.Pair.the-variants.{At, Over}
 use Rattle.mark_scan.specs.declared.Scan.{Scan}
-use Rattle.mark_scan.specs.Scan.{Limits, NextPair, pairsBy}
+use Rattle.mark_scan.specs.Scan.{Limits, NextPair}
+use Rattle.mark_scan.proofs.Pairs.{pair-over, pair-next}
 use Rattle.mark_rows.specs.Rows.{Room, Among}
 use Rattle.mark_superiors.specs.Superiors.{RisingAmong, PutsPairs}
 
@@ -79,15 +80,13 @@ module _ (bars : List (List ℕ)) (prices : List (List Float)) (m : ℕ) (scan :
     -- the next pair
     module _ (r : Pair) (pairs : NextPair m bars prices (scan .direction) (scan .limit) at r) where
       pub put-over : r ≡ Over → PutsPairs m bars prices scan k out₀ count out
-      put-over e c stop t lim =
-          let none = pairs c stop t lim ∙ ap (pairsBy (pairEnds c stop (scan .direction)) (c .bigs)) e in
-          sym (ap (foldl insertBar (take count out)) none) ∙ so-far .left c stop t lim
+      put-over e c stop t lim = rw (pair-over _ _ _ r (pairs c stop t lim) e) at (so-far .left c stop t lim)
 
       module _ (next bar : ℕ) (e : r ≡ At next bar) where
         here :
             (c : Levels) (stop : ℕ → Bool) → Bigs c m bars prices → Limits (scan .limit) stop
             → pairEnds c stop (scan .direction) (drop at (c .bigs)) ≡ bar ∷ pairEnds c stop (scan .direction) (drop next (c .bigs))
-        here c stop t lim = pairs c stop t lim ∙ ap (pairsBy (pairEnds c stop (scan .direction)) (c .bigs)) e
+        here c stop t lim = pair-next _ _ _ r (pairs c stop t lim) next bar e
 
         bar-end : (c : Levels) → Bigs c m bars prices → List·Memᴰ bar (endBars c)
         bar-end c t =

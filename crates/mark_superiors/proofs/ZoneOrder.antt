@@ -3,7 +3,7 @@ use Prim.Native.Nat.{ℕ, suc, _+_, _<_, _≤_}
 use native.Mathlib.Omega.{arith}
 use native.Mathlib.Numerals.{add-one}
 use mathlib.Core.Path.{_≡_, refl, sym, ap, subst, _∙_}
-use mathlib.Core.List.{List, [], _∷_, _++_, foldl}
+use mathlib.Core.List.{List, [], _∷_, _++_, foldl, append-nil}
 use lib.ListN.{length, getD, drop}
 use lib.Seq.{drop-cons}
 use lib.Dec.{eqb, ltb}
@@ -46,17 +46,13 @@ abbrev pub ownZones : ℕ → List Zone → List Zone
 ownZones h zs = keep (λ (z : Zone). eqb (z .«sup_idx») h) zs
 
 module _ (h : ℕ) where
-  own-none : {zs : List Zone} → All (λ (z : Zone). z .«sup_idx» ≡ h → ⊥) zs → ownZones h zs ≡ []
-  own-none nil = refl
-  own-none (cons {x = z} e a) = rw (ne-eqb (z .«sup_idx») h e) (own-none a)
-
   own-pass : {zs : List Zone} (rest : List Zone) → All (λ (z : Zone). z .«sup_idx» ≡ h → ⊥) zs → ownZones h (zs ++ rest) ≡ ownZones h rest
   own-pass rest nil = refl
   own-pass rest (cons {x = z} e a) = rw (ne-eqb (z .«sup_idx») h e) (own-pass rest a)
 
   own-all :
       {zs rest : List Zone} → All (λ (z : Zone). z .«sup_idx» ≡ h) zs → All (λ (z : Zone). z .«sup_idx» ≡ h → ⊥) rest → ownZones h (zs ++ rest) ≡ zs
-  own-all nil b = own-none b
+  own-all nil b = rw append-nil at (own-pass [] b)
   own-all (cons {x = z} {xs = zs} e a) b = rw (eq-eqb (z .«sup_idx») h e, own-all a b)
 
 -- ---- the superiors from i on

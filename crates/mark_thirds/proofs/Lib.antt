@@ -1,4 +1,3 @@
 pub mod Marked
-pub mod ZoneMarks
-pub mod Anchors
+pub mod Grounds
 pub mod Whole

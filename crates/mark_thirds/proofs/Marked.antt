@@ -4,11 +4,10 @@ use native.Mathlib.Omega.{arith}
 use native.Mathlib.Numerals.{add-one}
 use mathlib.Core.Path.{_≡_, refl, sym, ap, subst, _∙_}
 use mathlib.Core.Bool.{Bool, true, false, cond, _&&_, Bool·beq}
-use mathlib.Core.List.{List, [], _∷_, _++_, map, foldl, append-nil}
-use mathlib.Core.Logic.{_⊎_, inl, inr}
+use mathlib.Core.List.{List, [], _∷_, map, foldl, append-nil, foldl-append}
 use mathlib.Core.Option.{some}
 use lib.ListN.{length, getD, getElem?, set, take}
-use lib.Seq.{getD-set-same, getD-set-other, take-suc, take-all}
+use lib.Seq.{take-suc, take-all}
 use lib.Ieee.{Float}
 use lib.Dec.{eqb, ltb}
 use borrow.Author.Tests.{lt-ltb, eqb-true, eqb-false}
@@ -19,7 +18,7 @@ use Rattle.laws.proofs.Tests.{none-some, length-snoc}
 use Rattle.laws.proofs.Lists.{at-lt, each-append}
 use Rattle.mark_rows.specs.Rows.{keyOf, barIn, sideIn, rowKey}
 use Rattle.mark_rows.proofs.Gathered.{key-bar, key-side, key-same}
-use Rattle.mark_hits.proofs.Anchors.{snoc-at}
+use Rattle.mark_hits.proofs.Anchors.{column-more}
 use Rattle.mark_hits.specs.declared.Hit.{Hit}
 use Rattle.mark_hits.specs.declared.Hit.the-variants.{At, Nothing}
 use Rattle.mark_thirds.specs.Third.{thirdIn, Marked, OnBar, hitMarks}
@@ -83,17 +82,14 @@ module _ (zoned count : ℕ) (keys : List ℕ) (marks : List (List Float)) (l : 
           count < length marks → r ≡ false
           → Marked zoned (count + 1) (set keys count key) (set marks count (x ∷ p ∷ [])) (addThird l m)
       unfolding addThird
-      put-new room e = rw (addThird, among, e) (record { many = omega (arith, length-snoc l m, marked .many); are = λ i y f. go i y (snoc-at l m y i f) })
-        where
-          go :
-              (i : ℕ) (y : ThirdMark) → ((getElem? l i ≡ some y) × (i < length l)) ⊎ ((i ≡ length l) × (m ≡ y))
-              → y ≡ thirdIn (ltb i zoned) (getD (set keys count key) i 0) (getD (set marks count (x ∷ p ∷ [])) i [])
-          go i y (inl f) =
-              let other : i ≡ count → ⊥ = λ w. omega (arith, w, f .1, marked .many) in
-              rw (getD-set-other keys count i key 0 other, getD-set-other marks count i (x ∷ p ∷ []) [] other) (marked .are i y (f .0))
-          go i y (inr f) =
-              let same : i ≡ count = f .0 ∙ marked .many in
-              rw (same, getD-set-same keys count key 0 wide, getD-set-same marks count (x ∷ p ∷ []) [] room) (sym (f .1))
+      put-new room e =
+          rw (addThird, among, e)
+          (record {
+            many = omega (arith, length-snoc l m, marked .many);
+            are =
+                column-more (λ (i : ℕ) (y : ThirdMark) (key : ℕ) (row : List Float). y ≡ thirdIn (ltb i zoned) key row) count l keys marks m key 0
+                (x ∷ p ∷ []) [] (marked .many) wide room (marked .are) refl;
+          })
 
   -- all of them are of zones
   pub marked-zoned : count ≤ zoned → Marked count count keys marks l
@@ -121,10 +117,6 @@ on-bar hit bar x w e = subst OnBar e w
 
 -- ---- the marks that come of a list, one after the other
 
-pub fold-append : (l a b : List ThirdMark) → foldl addThird l (a ++ b) ≡ foldl addThird (foldl addThird l a) b
-fold-append l [] b = refl
-fold-append l (m ∷ a) b = fold-append (addThird l m) a b
-
 module _ {A : Type 0} (f : A → List ThirdMark) (zoned count : ℕ) (keys : List ℕ) (marks : List (List Float)) (l : List ThirdMark) (xs : List A) (i : ℕ) where
   -- element i has come to these marks
   pub marked-next :
@@ -132,7 +124,7 @@ module _ {A : Type 0} (f : A → List ThirdMark) (zoned count : ℕ) (keys : Lis
       → Marked zoned count keys marks (foldl addThird (foldl addThird l (each f (take i xs))) ms)
       → Marked zoned count keys marks (foldl addThird l (each f (take (i + 1) xs)))
   marked-next d ms h e w =
-      rw (add-one i, take-suc xs i d h, each-append f (take i xs) (getD xs i d ∷ []), append-nil, e, fold-append l (each f (take i xs)) ms) w
+      rw (add-one i, take-suc xs i d h, each-append f (take i xs) (getD xs i d ∷ []), append-nil, e, foldl-append addThird l (each f (take i xs)) ms) w
 
   pub marked-all :
       length xs ≤ i → Marked zoned count keys marks (foldl addThird l (each f (take i xs)))

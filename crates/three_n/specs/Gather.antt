@@ -31,7 +31,7 @@ pub record Ready
     (c : Levels) (q : Quotes) (n : Counts) (bars : List (List ℕ)) (prices : List (List Float)) (sups rows : List (List ℕ)) (zeros : ℕ)
     (keys : List ℕ) : Type 0
   where
-    pub scanned : Scanned c n bars prices sups rows
+    pub tables : Scanned c n bars prices sups rows
     pub few : zeros ≤ 512
     pub thirds : take zeros keys ≡ map rowKey (thirdMarks c q)
     pub inside : EndsInside c q

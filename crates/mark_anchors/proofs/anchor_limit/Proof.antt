@@ -21,17 +21,17 @@ abbrev μ-loop : tie.MeasureT-loop
 loop-holds : tie.Need-loop-holds Inv-loop μ-loop
 loop-holds c = (c .pre .0, λ l t. refl)
 
-mul-against : tie.Need-mul-against Inv-loop μ-loop
-mul-against c = search needs
+mul-is-way : tie.Need-mul-is-way Inv-loop μ-loop
+mul-is-way c = search needs
 
-index-1-against : tie.Need-index-1-against Inv-loop μ-loop
-index-1-against c = search needs
+index-1-is-way : tie.Need-index-1-is-way Inv-loop μ-loop
+index-1-is-way c = search needs
 
-index-2-against : tie.Need-index-2-against Inv-loop μ-loop
-index-2-against c = search needs
+index-2-is-way : tie.Need-index-2-is-way Inv-loop μ-loop
+index-2-is-way c = search needs
 
-against-requires : tie.Need-against-requires Inv-loop μ-loop
-against-requires c κs = search needs
+is-way-requires : tie.Need-is-way-requires Inv-loop μ-loop
+is-way-requires c κs = search needs
 
 mul-limit-at : tie.Need-mul-limit-at Inv-loop μ-loop
 mul-limit-at c = search needs
@@ -50,7 +50,7 @@ returns c =
     let test = c .before .before in
     let turn = test .before .before .before in
     let head = turn .before in
-    λ l b t. other-here l _ _ t _ (head .loop .j) (head .loop .inv .1 l t) (turn .loop-test .taken) _ (test .before .against .ensures) (test .if1 .taken)
+    λ l b t. other-here l _ _ t _ (head .loop .j) (head .loop .inv .1 l t) (turn .loop-test .taken) _ (test .before .is-way .ensures) (test .if1 .taken)
     _ (c .limit-at .ensures l b)
 
 add-j : tie.Need-add-j Inv-loop μ-loop
@@ -63,7 +63,7 @@ loop-again : tie.Need-loop-again Inv-loop μ-loop
 loop-again c =
     let turn = c .before .before .before in
     let inv = turn .before .loop .inv in
-    (inv .0, λ l t. other-later l _ _ t _ (turn .before .loop .j) (inv .1 l t) (turn .loop-test .taken) _ (c .before .against .ensures) (c .if1 .left))
+    (inv .0, λ l t. other-later l _ _ t _ (turn .before .loop .j) (inv .1 l t) (turn .loop-test .taken) _ (c .before .is-way .ensures) (c .if1 .left))
 
 returns-2 : tie.Need-returns-2 Inv-loop μ-loop
 returns-2 c =
@@ -77,10 +77,10 @@ anchor-limit-spec =
     Inv-loop
     μ-loop
     loop-holds
-    mul-against
-    index-1-against
-    index-2-against
-    against-requires
+    mul-is-way
+    index-1-is-way
+    index-2-is-way
+    is-way-requires
     mul-limit-at
     index-1-limit-at
     index-2-limit-at

@@ -1,7 +1,8 @@
 -- `mark_hits::put_anchor` meets its contract. Assumes nothing.
+use mathlib.Core.Path.{ap}
 use lib.ListN.{length-set}
 use borrow.Author.Needs.{needs}
-use Rattle.mark_hits.proofs.Anchors.{puts-nowhere, puts-priced}
+use Rattle.mark_hits.proofs.Anchors.{endPrice, puts-anchor}
 use Rattle.mark_hits.proofs.put_anchor.Statement.{statement}
 use Rattle.mark_hits.proofs.put_anchor.Tie as tie
 
@@ -30,7 +31,7 @@ returns : tie.Need-returns
 returns c =
     let start = c .before .before in (
       (simp length-set (start .pre .2 .0), simp length-set (start .pre .2 .1)),
-      λ l buy an a at behind ends so-far. puts-nowhere _ _ _ (start .args .end) _ _ (start .pre .1) (start .pre .2) l buy an a at behind ends so-far _ (c .enum-told .given .1),
+      puts-anchor _ _ _ (start .args .end) _ _ (start .pre .1) (start .pre .2) _ _ (ap endPrice (c .enum-told .given .1)),
     )
 
 mul-t16 : tie.Need-mul-t16
@@ -49,7 +50,7 @@ returns-2 : tie.Need-returns-2
 returns-2 c =
     let start = c .before .before .before in (
       (simp length-set (start .pre .2 .0), simp length-set (start .pre .2 .1)),
-      λ l buy an a at behind ends so-far. puts-priced _ _ _ (start .args .end) _ _ (start .pre .1) (start .pre .2) l buy an a at behind ends so-far _ _ _ (c .before .end .given .1),
+      puts-anchor _ _ _ (start .args .end) _ _ (start .pre .1) (start .pre .2) _ _ (ap endPrice (c .before .end .given .1)),
     )
 
 pub put-anchor-spec : {M : Type 1} → statement M

@@ -1,11 +1,11 @@
 -- `mark_hits::quote_at` meets its contract. Assumes nothing.
 use borrow.Author.Needs.{needs}
-use Rattle.mark_hits.proofs.Lent.{buy-outside, buy-inside, sell-outside, sell-inside}
+use Rattle.mark_hits.proofs.Lent.{quote-outside, quote-inside}
 use Rattle.mark_hits.proofs.quote_at.Statement.{statement}
 use Rattle.mark_hits.proofs.quote_at.Tie as tie
 
 returns : tie.Need-returns
-returns c = buy-outside _ _ _ _ (c .before .if1 .taken) (c .if2 .taken)
+returns c = quote-outside _ _ _ _ (c .before .if1 .taken) (c .if2 .taken)
 
 mul-t6 : tie.Need-mul-t6
 mul-t6 c = search needs
@@ -14,10 +14,10 @@ shared-slice-read-t9 : tie.Need-shared-slice-read-t9
 shared-slice-read-t9 c = search needs
 
 returns-2 : tie.Need-returns-2
-returns-2 c = buy-inside _ _ _ _ (c .before .before .if1 .taken) (c .before .if2 .left)
+returns-2 c = quote-inside _ _ _ _ (c .before .before .if1 .taken) (c .before .if2 .left)
 
 returns-3 : tie.Need-returns-3
-returns-3 c = sell-outside _ _ _ _ (c .before .if1 .left) (c .if3 .taken)
+returns-3 c = quote-outside _ _ _ _ (c .before .if1 .left) (c .if3 .taken)
 
 mul-t10 : tie.Need-mul-t10
 mul-t10 c = search needs
@@ -26,7 +26,7 @@ shared-slice-read-t12 : tie.Need-shared-slice-read-t12
 shared-slice-read-t12 c = search needs
 
 returns-4 : tie.Need-returns-4
-returns-4 c = sell-inside _ _ _ _ (c .before .before .if1 .left) (c .before .if3 .left)
+returns-4 c = quote-inside _ _ _ _ (c .before .before .if1 .left) (c .before .if3 .left)
 
 pub quote-at-spec : {M : Type 1} → statement M
 quote-at-spec =

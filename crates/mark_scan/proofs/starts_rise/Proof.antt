@@ -8,7 +8,7 @@ use lib.Dec.{leb}
 use lib.ListN.{getD}
 use borrow.Author.Tests.{leb-true}
 use Rattle.laws.proofs.Tests.{and-l, and-r}
-use Rattle.mark_scan.proofs.Stops.{Risen, risen-none, risen-next}
+use Rattle.mark_scan.proofs.Stops.{Risen, risen-next}
 use borrow.Author.Needs.{needs}
 use Rattle.mark_scan.proofs.starts_rise.Statement.{statement}
 use Rattle.mark_scan.proofs.starts_rise.Tie as tie
@@ -20,7 +20,7 @@ abbrev μ-loop : tie.MeasureT-loop
 μ-loop zb n rise₀ last₀ i₀ rise last i = n - i
 
 loop-holds : tie.Need-loop-holds Inv-loop μ-loop
-loop-holds c = (omega arith, λ good. risen-none _ 0)
+loop-holds c = (omega arith, λ good j k h w. absurd (omega arith))
 
 mul-start : tie.Need-mul-start Inv-loop μ-loop
 mul-start c = search needs
@@ -51,7 +51,7 @@ loop-again c =
     )
 
 returns : tie.Need-returns Inv-loop μ-loop
-returns c good i j h w = c .before .loop .inv .1 good .rise i j h (omega arith)
+returns c good i j h w = c .before .loop .inv .1 good i j h (omega arith) .0
 
 pub starts-rise-spec : {M : Type 1} → statement M
 starts-rise-spec =

@@ -11,7 +11,8 @@ use Rattle.rules.specs.Marks.{beats}
 use Rattle.tables.specs.Tables.{Bigs}
 use Rattle.mark_hits.specs.Anchors.{barsIn}
 use Rattle.mark_hits.proofs.Ends.{end-later}
-use Rattle.mark_thirds.proofs.Anchors.{first-none, first-over, first-hit, first-missed}
+use Rattle.mark_hits.proofs.Anchors.{bars-none, bars-over, bars-next}
+use Rattle.mark_hits.proofs.Hits.{hits-over, hit-first, hit-later}
 use Rattle.mark_thirds.proofs.anchor_hit.Statement.{statement}
 use Rattle.mark_thirds.proofs.anchor_hit.Tie as tie
 
@@ -49,7 +50,7 @@ returns : tie.Need-returns Inv-loop μ-loop
 returns c =
     let found = c .before .before in
     let head = found .before .before .before .before in
-    (tt, λ l t. first-over l (beat head) (start head .args .side .buy) _ (head .loop .k) _ (head .loop .inv l t) (found .next-end .result) (found .next-end .ensures .1 l t) (c .enum-told .given .1))
+    (tt, λ l t. hits-over (beat head) _ _ (head .loop .inv l t) (bars-over l (start head .args .side .buy) _ (head .loop .k) (found .next-end .result) (found .next-end .ensures .1 l t) (c .enum-told .given .1)))
 
 cast-hit-at : tie.Need-cast-hit-at Inv-loop μ-loop
 cast-hit-at c = search needs
@@ -67,7 +68,7 @@ returns-2 c =
     let found = told .before .before in
     let head = found .before .before .before .before in (
       tried .hit-at .ensures .0,
-      λ l t. first-hit l (beat head) (start head .args .side .buy) _ (head .loop .k) _ (head .loop .inv l t) (found .next-end .result) (found .next-end .ensures .1 l t) _ _ _ (told .end .given .1)
+      λ l t. hit-first (beat head) _ _ (head .loop .inv l t) _ _ (bars-next l (start head .args .side .buy) _ (head .loop .k) (found .next-end .result) (found .next-end .ensures .1 l t) _ _ _ (told .end .given .1))
           (tried .hit-at .result) (tried .hit-at .ensures .1) _ (c .before .is-hit .ensures) (c .if2 .taken),
     )
 
@@ -85,13 +86,13 @@ loop-again c =
     let told = tried .before .before in
     let found = told .before .before in
     let head = found .before .before .before .before in
-    λ l t. first-missed l (beat head) (start head .args .side .buy) _ (head .loop .k) _ (head .loop .inv l t) (found .next-end .result) (found .next-end .ensures .1 l t) _ _ _ (told .end .given .1)
+    λ l t. hit-later (beat head) _ _ (head .loop .inv l t) _ _ (bars-next l (start head .args .side .buy) _ (head .loop .k) (found .next-end .result) (found .next-end .ensures .1 l t) _ _ _ (told .end .given .1))
     (tried .hit-at .result) (tried .hit-at .ensures .1) _ (c .before .is-hit .ensures) (c .if2 .left)
 
 returns-3 : tie.Need-returns-3 Inv-loop μ-loop
 returns-3 c =
     let head = c .before .before in
-    (tt, λ l t. first-none l (beat head) (start head .args .side .buy) _ (head .loop .k) _ (head .loop .inv l t) _ _ _ t (c .if1 .left))
+    (tt, λ l t. hits-over (beat head) _ _ (head .loop .inv l t) (bars-none l (start head .args .side .buy) _ (head .loop .k) _ _ _ t (c .if1 .left)))
 
 pub anchor-hit-spec : {M : Type 1} → statement M
 anchor-hit-spec =

@@ -14,10 +14,10 @@ use Rattle.levels.proofs.Read.{no-stroke}
 use Rattle.tables.specs.Tables.{Bigs}
 use Rattle.mark_hits.specs.declared.Side.{Side}
 use Rattle.mark_hits.specs.Anchors.{anchorsIn}
+use Rattle.mark_hits.proofs.Anchors.{anchor-here}
 use Rattle.mark_thirds.specs.Third.{Marked}
 use Rattle.mark_thirds.proofs.Marked.{marked-next, marked-all}
-use Rattle.mark_thirds.proofs.ZoneMarks.{hit-on-bar}
-use Rattle.mark_thirds.proofs.Anchors.{anchor-nowhere, anchor-is, anchor-here}
+use Rattle.mark_thirds.proofs.Grounds.{hit-on-bar, anchor-nowhere, anchor-is}
 use Rattle.mark_thirds.proofs.anchor_marks.Statement.{statement}
 use Rattle.mark_thirds.proofs.anchor_marks.Tie as tie
 

@@ -9,9 +9,9 @@ use Rattle.rules.specs.Records.{isUp, Levels}
 use Rattle.rules.specs.Marks.{beats, pairEnds}
 use Rattle.tables.specs.Tables.{Bigs}
 use Rattle.mark_scan.specs.Scan.{Limits}
-use Rattle.mark_scan.proofs.Pairs.{pair-later}
+use Rattle.mark_scan.proofs.Pairs.{pairs-none, pair-over, pair-next, pair-later}
+use Rattle.mark_hits.proofs.Hits.{hits-over, hit-first, hit-later}
 use borrow.Author.Needs.{needs}
-use Rattle.mark_thirds.proofs.ZoneMarks.{scan-over, scan-here, scan-later, scan-none}
 use Rattle.mark_thirds.proofs.zone_hit.Statement.{statement}
 use Rattle.mark_thirds.proofs.zone_hit.Tie as tie
 
@@ -43,7 +43,7 @@ returns : tie.Need-returns Inv-loop μ-loop
 returns c =
     let found = c .before .before in
     let head = found .before .before in
-    (tt, λ l stop t lim. scan-over _ _ _ _ _ (head .loop .inv l stop t lim) _ (found .next-pair .ensures .1 l stop t lim) (c .enum-told .given .1))
+    (tt, λ l stop t lim. hits-over _ _ _ (head .loop .inv l stop t lim) (pair-over _ _ _ _ (found .next-pair .ensures .1 l stop t lim) (c .enum-told .given .1)))
 
 hit-at-requires : tie.Need-hit-at-requires Inv-loop μ-loop
 hit-at-requires c κs = search needs
@@ -58,7 +58,7 @@ returns-2 c =
     let found = told .before .before in
     let head = found .before .before in (
       tried .hit-at .ensures .0,
-      λ l stop t lim. scan-here _ _ _ _ _ (head .loop .inv l stop t lim) _ (found .next-pair .ensures .1 l stop t lim) _ _ (told .pair .given .1)
+      λ l stop t lim. hit-first _ _ _ (head .loop .inv l stop t lim) _ _ (pair-next _ _ _ _ (found .next-pair .ensures .1 l stop t lim) _ _ (told .pair .given .1))
           (tried .hit-at .result) (tried .hit-at .ensures .1) _ (c .before .is-hit .ensures) (c .if1 .taken),
     )
 
@@ -76,13 +76,13 @@ loop-again c =
     let told = tried .before .before in
     let found = told .before .before in
     let head = found .before .before in
-    λ l stop t lim. scan-later _ _ _ _ _ (head .loop .inv l stop t lim) _ (found .next-pair .ensures .1 l stop t lim) _ _ (told .pair .given .1)
+    λ l stop t lim. hit-later _ _ _ (head .loop .inv l stop t lim) _ _ (pair-next _ _ _ _ (found .next-pair .ensures .1 l stop t lim) _ _ (told .pair .given .1))
     (tried .hit-at .result) (tried .hit-at .ensures .1) _ (c .before .is-hit .ensures) (c .if1 .left)
 
 returns-3 : tie.Need-returns-3 Inv-loop μ-loop
 returns-3 c =
     let head = c .before in
-    (tt, λ l stop t lim. scan-none _ l stop _ _ (head .loop .at) _ _ t _ (head .loop .inv l stop t lim) (c .loop-test .left))
+    (tt, λ l stop t lim. hits-over _ _ _ (head .loop .inv l stop t lim) (pairs-none _ _ _ _ _ (head .loop .at) l stop t lim _ refl (omega (arith, c .loop-test .left))))
 
 pub zone-hit-spec : {M : Type 1} → statement M
 zone-hit-spec =

@@ -15,7 +15,7 @@ use Rattle.tables.proofs.Zones.{no-zone}
 use Rattle.mark_scan.specs.Scan.{Scans}
 use Rattle.mark_thirds.specs.Third.{Marked}
 use Rattle.mark_thirds.proofs.Marked.{marked-none, marked-next, marked-all, marked-zoned}
-use Rattle.mark_thirds.proofs.ZoneMarks.{hit-on-bar, third-at}
+use Rattle.mark_thirds.proofs.Grounds.{hit-on-bar, third-at}
 use Rattle.mark_thirds.proofs.zone_marks.Statement.{statement}
 use Rattle.mark_thirds.proofs.zone_marks.Tie as tie
 

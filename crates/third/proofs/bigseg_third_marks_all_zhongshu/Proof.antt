@@ -25,8 +25,8 @@ begun c = c .before .before
 abbrev known : tie.After-scans-of → tie.Else1
 known c = c .before .before .before .before .before .before .before
 
-abbrev scanned : tie.After-thirds-of → tie.After-scans-of
-scanned c = c .before .before .before .before .before .before .before .before
+abbrev at-scans : tie.After-thirds-of → tie.After-scans-of
+at-scans c = c .before .before .before .before .before .before .before .before
 
 -- the slices are not refused with 8 or 1, so they are short enough
 short :
@@ -71,18 +71,18 @@ slice-aggregate-rows-of c = search needs
 rows-of-requires : tie.Need-rows-of-requires
 rows-of-requires c κs =
     let made = c .before .before .before in
-    let here = known (scanned made) in
+    let here = known (at-scans made) in
     let t = begun here .tables-of .ensures .1 .0 (here .if1 .left) in
-    let marked = made .thirds-of .ensures .1 _ _ t (scanned made .scans-of .ensures .1 _ _ t) in
+    let marked = made .thirds-of .ensures .1 _ _ t (at-scans made .scans-of .ensures .1 _ _ t) in
     let room = made .thirds-of .ensures .0 in
     (room .0, omega (arith, room .0, room .1 .0), bars-small _ _ _ _ _ _ marked (short here .0) (short here .1))
 
 returns-2 : tie.Need-returns-2
 returns-2 c =
     let made = c .before .before .before .before in
-    let here = known (scanned made) in
+    let here = known (at-scans made) in
     let t = begun here .tables-of .ensures .1 .0 (here .if1 .left) in
-    c .rows-of .ensures _ (made .thirds-of .ensures .1 _ _ t (scanned made .scans-of .ensures .1 _ _ t))
+    c .rows-of .ensures _ (made .thirds-of .ensures .1 _ _ t (at-scans made .scans-of .ensures .1 _ _ t))
     ∙ third-given _ _ _ (priced (begun here) .quotes-refusal .ensures) (sym (here .if1 .left) ∙ begun here .tables-of .ensures .0)
 
 pub bigseg-third-marks-all-zhongshu-spec : {M : Type 1} → statement M

@@ -25,8 +25,8 @@ begun c = c .before .before
 abbrev known : tie.After-scans-of → tie.Else1
 known c = c .before .before .before .before .before .before .before
 
-abbrev scanned : tie.After-thirds-of → tie.After-scans-of
-scanned c = c .before .before .before .before .before .before .before .before
+abbrev at-scans : tie.After-thirds-of → tie.After-scans-of
+at-scans c = c .before .before .before .before .before .before .before .before
 
 abbrev quotes : tie.After-own-number → Quotes
 quotes c = record { highs = start c .args .highs .now; lows = start c .args .lows .now }
@@ -74,17 +74,17 @@ slice-aggregate-rows-by c = search needs
 rows-by-requires : tie.Need-rows-by-requires
 rows-by-requires c κs =
     let made = c .before .before .before .before .before .before in
-    let here = known (scanned made) in
+    let here = known (at-scans made) in
     let own = priced (begun here) in
     let t = begun here .tables-of .ensures .1 .0 (here .if1 .left) in
-    let s = scanned made .scans-of .ensures .1 _ _ t in
+    let s = at-scans made .scans-of .ensures .1 _ _ t in
     let fit = quotes-fit _ _ (quotes-good (start own .args .chart) (quotes own) _ (own .own-number .ensures) (none here)) in
     let room = made .thirds-of .ensures .0 in (
       (t .fits, fit .0, fit .1, room .1 .0),
       (
         levelsOf (start own .args .chart),
         record {
-          scanned = s;
+          tables = s;
           few = room .0;
           thirds = marked-keys _ _ _ _ _ (made .thirds-of .ensures .1 _ _ t s) (omega (arith, room .0, room .1 .0));
           inside = ends-inside _ _ (ends-good (start own .args .chart) (quotes own) _ (own .own-number .ensures) (none here)) (fit .2);
@@ -96,7 +96,7 @@ returns-2 : tie.Need-returns-2
 unfolding rows-by-requires
 returns-2 c =
     let made = c .before .before .before .before .before .before .before .before in
-    let here = known (scanned made) in
+    let here = known (at-scans made) in
     let own = priced (begun here) in
     let ready = rows-by-requires (c .before .before) (c .before .rows-by .lifetimes) .1 .1 in
     c .before .rows-by .ensures _ ready

@@ -24,7 +24,7 @@ sided c = c .before .before .before .before
 room : (c : tie.Start) → Room (endBars (c .pre .1 .0)) (c .args .keys .now) (c .args .zeros)
 room c =
     let ready = c .pre .1 .1 in
-    thirds-room (c .pre .1 .0) _ _ _ (ready .thirds) (omega (arith, ready .scanned .bigs .count, c .pre .0 .0 .bigs)) (c .pre .0 .1) (ready .inside)
+    thirds-room (c .pre .1 .0) _ _ _ (ready .thirds) (omega (arith, ready .tables .bigs .count, c .pre .0 .0 .bigs)) (c .pre .0 .1) (ready .inside)
 
 slice-aggregate-superior-rows : tie.Need-slice-aggregate-superior-rows
 slice-aggregate-superior-rows c = search needs
@@ -32,7 +32,7 @@ slice-aggregate-superior-rows c = search needs
 superior-rows-requires : tie.Need-superior-rows-requires
 superior-rows-requires c κs =
     let s = c .before .before .before .before .before in
-    ((s .pre .0 .0, omega (arith, s .pre .0 .3), omega arith), (s .pre .1 .0, s .pre .1 .1 .scanned, room s))
+    ((s .pre .0 .0, omega (arith, s .pre .0 .3), omega arith), (s .pre .1 .0, s .pre .1 .1 .tables, room s))
 
 side-of-requires : tie.Need-side-of-requires
 side-of-requires c κs = search needs
@@ -54,7 +54,7 @@ anchor-rows-requires c κs =
     let side = at-side .side-of .ensures .0 in
     let grown = at-rows .superior-rows .ensures .1 .1 in (
       (side .1, omega (arith, side .0, s .pre .0 .0 .bigs), omega (arith, grown .long, s .pre .0 .3), omega (arith, grown .wide)),
-      (s .pre .1 .0, bigs-by _ _ _ _ _ (side .0) (ready .scanned .bigs), at-rows .superior-rows .ensures .1 .0 _ (ready .scanned) (room s)),
+      (s .pre .1 .0, bigs-by _ _ _ _ _ (side .0) (ready .tables .bigs), at-rows .superior-rows .ensures .1 .0 _ (ready .tables) (room s)),
     )
 
 slice-aggregate-rows-of : tie.Need-slice-aggregate-rows-of
@@ -69,8 +69,8 @@ rows-of-requires c κs =
     let ready = s .pre .1 .1 in
     let before = at-rows .superior-rows .ensures .1 .1 in
     let grown = at-anchors .anchor-rows .ensures .1 .1 in
-    let bigs = bigs-by _ _ _ _ _ (at-side .side-of .ensures .0 .0) (ready .scanned .bigs) in
-    let all = at-anchors .anchor-rows .ensures .1 .0 _ bigs (at-rows .superior-rows .ensures .1 .0 _ (ready .scanned) (room s)) in
+    let bigs = bigs-by _ _ _ _ _ (at-side .side-of .ensures .0 .0) (ready .tables .bigs) in
+    let all = at-anchors .anchor-rows .ensures .1 .0 _ bigs (at-rows .superior-rows .ensures .1 .0 _ (ready .tables) (room s)) in
     let most = room-512 all (omega (arith, grown .long, before .long, s .pre .0 .3)) in (
       (most, omega (arith, most, grown .long, before .long, s .pre .0 .3), omega (arith, most, grown .wide, before .wide), s .pre .0 .1),
       room-bars all (ready .inside),
@@ -85,7 +85,7 @@ returns c l ready =
     let at-side = sided at-anchors in
     let at-rows = numbered at-side in
     let s = start at-rows in
-    let tables = ready .scanned in
+    let tables = ready .tables in
     let bigs = bigs-by _ _ _ _ _ (at-side .side-of .ensures .0 .0) (tables .bigs) in
     let limit = at-anchors .before .before .before .anchor-limit .ensures l (tables .bigs) (tables .superiors) in
     c .rows-of .ensures
