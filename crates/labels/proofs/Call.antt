@@ -10,13 +10,8 @@ use Rattle.rules.specs.Labels.{labelsFrom, labels}
 use Rattle.rules.specs.Refusals.{labelsRefusal}
 use Rattle.rules.specs.Calls.{labelsCall}
 use Rattle.zones.specs.Filled.{callNumber}
-use Rattle.zones.proofs.Call.{call-refused, call-given}
+use Rattle.zones.proofs.Call.{Answers, call-by}
 
-module _ (c : Chart) (n : ℕ) (e : n ≡ callNumber c 0) where
-  pub labels-refused : (n ≡ 0 → ⊥) → refused n ≡ labelsCall c
-  unfolding labelsCall
-  labels-refused = call-refused c 0 labelsRefusal labels (labelsCall c) refl refl n e
-
-  pub labels-given : n ≡ 0 → given (labelsFrom (levelsOf c) none (overlapZones (levelsOf c))) ≡ labelsCall c
-  unfolding labelsCall labels
-  labels-given zero = call-given c 0 labelsRefusal labels (labelsCall c) refl refl (sym zero ∙ e)
+pub labels-by : (c : Chart) (n : ℕ) → n ≡ callNumber c 0 → Answers n (labelsFrom (levelsOf c) none (overlapZones (levelsOf c))) (labelsCall c)
+unfolding labelsCall labels
+labels-by c = call-by c 0 labelsRefusal labels (labelsCall c) refl refl

@@ -28,6 +28,10 @@ module _ (q : Quotes) (buy : Bool) (bar : ℕ) (u : Bool) (is : buy ≡ u) where
   unfolding quote
   quote-inside h = rw is (sym (rw (take-length own) at (at-in (length own) bar own nan h h)))
 
+pub side-short : (q : Quotes) (buy : Bool) (n : ℕ) → length (q .highs) ≤ n → length (q .lows) ≤ n → length (side q buy) ≤ n
+side-short q true n high low = low
+side-short q false n high low = high
+
 -- ---- 8 and 1
 
 not-and : (a b : Bool) → not (a && b) ≡ (not a || not b)

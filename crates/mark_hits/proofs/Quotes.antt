@@ -7,10 +7,10 @@ use mathlib.Core.List.{List}
 use lib.ListN.{length}
 use lib.Dec.{eqb, ltb}
 use lib.Ieee.{Float}
-use borrow.Author.Tests.{ne-eqb, eqb-true, ltb-false}
+use borrow.Author.Tests.{ne-eqb, eqb-true, ltb-false, not-false}
 use Rattle.rules.specs.Records.{Quotes}
 use Rattle.rules.specs.Refusals.{refuse, unequal, badSlices, badQuotes}
-use Rattle.laws.proofs.Tests.{or-l, or-r, refuse-no}
+use Rattle.laws.proofs.Tests.{or-l, or-r, refuse-no, refuse-on}
 use Rattle.mark_hits.specs.Found.{quotesRefusal}
 
 -- 8, 1, or the number n where t, and else what follows
@@ -32,17 +32,9 @@ quotes-then q t n k = go (badSlices q) (badQuotes q) t
 
 -- none of them applies
 pub quotes-none : (q : Quotes) (k : ℕ) → quotesRefusal q k ≡ 0 → (0 ≡ quotesRefusal q 0) × (k ≡ 0)
-unfolding refuse
-quotes-none q k e = go (badSlices q) (badQuotes q) e
-  where
-    go : (a b : Bool) → refuse a 8 (refuse b 1 k) ≡ 0 → (0 ≡ refuse a 8 (refuse b 1 0)) × (k ≡ 0)
-    go true b f = absurd (omega (arith, f))
-    go false true f = absurd (omega (arith, f))
-    go false false f = (refl, f)
-
-not-no : (b : Bool) → not b ≡ false → b ≡ true
-not-no true h = refl
-not-no false h = absurd (true≢false h)
+quotes-none q k e =
+    let none = refuse-on (badQuotes q) 0 k (refuse-on (badSlices q) 7 (refuse (badQuotes q) 1 k) e) in
+    (sym (rw none at e), none)
 
 -- slices that are not refused have one length, and fit their bars
 pub quotes-fit :
@@ -52,6 +44,6 @@ unfolding badSlices unequal
 quotes-fit highs lows e =
     let q : Quotes = record { highs = highs; lows = lows } in
     let bad = refuse-no (badSlices q) 7 (refuse (badQuotes q) 1 0) (sym e) in
-    let one = eqb-true (length highs) (length lows) (not-no (eqb (length highs) (length lows)) (or-l (unequal q) (ltb 0x1_0000 (length highs)) bad)) in
+    let one = eqb-true (length highs) (length lows) (not-false (eqb (length highs) (length lows)) (or-l (unequal q) (ltb 0x1_0000 (length highs)) bad)) in
     let few = ltb-false 0x1_0000 (length highs) (or-r (unequal q) (ltb 0x1_0000 (length highs)) bad) in
     (few, omega arith, one)

@@ -22,6 +22,7 @@ use Rattle.mark_scan.proofs.Scans.{scanned-is}
 use Rattle.mark_hits.specs.declared.Hit.{Hit}
 use Rattle.mark_hits.specs.declared.Hit.the-variants.{At, Nothing}
 use Rattle.mark_hits.specs.Found.{hitBar, LentPrice}
+use Rattle.mark_hits.proofs.Lent.{side-short}
 use Rattle.mark_hits.specs.declared.Price.the-variants as price
 use Rattle.mark_hits.specs.declared.Anchor.{Anchor}
 use Rattle.mark_hits.specs.Anchors.{barsIn, priceOf, AnchorAt}
@@ -33,11 +34,7 @@ use Rattle.mark_thirds.specs.Third.{groundOf, OnBar, hitMarks}
 -- the bar of a hit lies inside slices of at most 65,536 prices
 pub hit-on-bar : (q : Quotes) (buy : Bool) (h : Hit) → LentPrice q buy h → length (q .highs) ≤ 0x1_0000 → length (q .lows) ≤ 0x1_0000 → OnBar h
 hit-on-bar q buy Nothing w high low = tt
-hit-on-bar q buy (At bar x) w high low = go buy (w .1)
-  where
-    go : (b : Bool) → bar < length (cond b (q .lows) (q .highs)) → bar < 0x1_0000
-    go true k = omega arith
-    go false k = omega arith
+hit-on-bar q buy (At bar x) w high low = omega (arith, w .1, side-short q buy 0x1_0000 high low)
 
 -- the mark of the first hit, if there is one, over a ground
 pub hit-marks :

@@ -14,25 +14,11 @@ use Rattle.rules.specs.Calls.{onChart, thirdCall}
 use Rattle.mark_hits.specs.Found.{quotesRefusal}
 use Rattle.mark_hits.proofs.Quotes.{quotes-then}
 use Rattle.zones.specs.Filled.{callNumber}
-use Rattle.zones.proofs.Call.{call-refused, call-given}
+use Rattle.zones.proofs.Call.{Answers, call-by}
 
-module _ (c : Chart) (q : Quotes) (own : ℕ) (is : own ≡ quotesRefusal q 0) where
-  abbrev marks : Levels → List ThirdMark
-  marks l = thirdMarks l q
-
-  abbrev rest : Levels → ℕ
-  rest l = quotesRefusal q (zonesRefusal l)
-
-  third-is : thirdCall c q ≡ onChart c (λ (l : Levels). answered (rest l) (marks l))
-  unfolding thirdCall thirdRefusal
-  third-is = refl
-
-  first : rest (levelsOf c) ≡ cond (eqb own 0) (zonesRefusal (levelsOf c)) own
-  unfolding refuse
-  first = rw is (quotes-then q false 0 (zonesRefusal (levelsOf c)))
-
-  pub third-refused : (n : ℕ) → n ≡ callNumber c own → (n ≡ 0 → ⊥) → refused n ≡ thirdCall c q
-  third-refused = call-refused c own rest marks (thirdCall c q) third-is first
-
-  pub third-given : 0 ≡ callNumber c own → given (thirdMarks (levelsOf c) q) ≡ thirdCall c q
-  third-given = call-given c own rest marks (thirdCall c q) third-is first
+pub third-by :
+    (c : Chart) (q : Quotes) (own : ℕ) → own ≡ quotesRefusal q 0 → (n : ℕ) → n ≡ callNumber c own → Answers n (thirdMarks (levelsOf c) q) (thirdCall c q)
+unfolding thirdCall thirdRefusal refuse
+third-by c q own is =
+    call-by c own (λ (l : Levels). quotesRefusal q (zonesRefusal l)) (λ (l : Levels). thirdMarks l q) (thirdCall c q) refl
+    (rw is (quotes-then q false 0 (zonesRefusal (levelsOf c))))

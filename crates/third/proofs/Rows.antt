@@ -17,6 +17,7 @@ use Rattle.rules.specs.Marks.{side, quote, thirdMarks}
 use Rattle.laws.proofs.Answers.{given-rows}
 use Rattle.laws.proofs.Lists.{lt-at, at-lt, at-getD, all-at}
 use Rattle.laws.proofs.Thirds.{thirds-beyond}
+use Rattle.mark_hits.proofs.Lent.{side-short}
 use Rattle.mark_rows.specs.Rows.{barIn}
 use Rattle.mark_thirds.specs.Third.{thirdIn, Marked}
 
@@ -49,8 +50,4 @@ bars-small c q zoned count keys marks marked high low i h =
     let (m, f) = lt-at (thirdMarks c q) i (omega (arith, marked .many)) in
     let same = ap (λ (x : ThirdMark). x .«bar_index») (marked .are i m f) in
     let inside = at-lt (side q (m .«is_buy»)) (m .«bar_index») (m .price) (all-at i m (thirds-beyond c q) f .quoted) in
-    go (m .«is_buy») (m .«bar_index») inside same
-  where
-    go : (buy : Bool) (bar : ℕ) → bar < length (cond buy (q .lows) (q .highs)) → bar ≡ barIn (getD keys i 0) → barIn (getD keys i 0) < 0x1_0000
-    go true bar k e = omega (arith, k, e, low)
-    go false bar k e = omega (arith, k, e, high)
+    omega (arith, inside, same, side-short q (m .«is_buy») 0x1_0000 high low)

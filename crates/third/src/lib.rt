@@ -20,6 +20,14 @@ pub struct ThirdRows {
     pub count: u16,
 }
 
+// What stands in a row that is not counted.
+const NO_MARK: ThirdMark = ThirdMark {
+    bar_index: 0,
+    price: 0.0,
+    is_buy: false,
+    ground: Ground::Zone(0.0),
+};
+
 // ---- rows
 
 // The ground of a mark: a zone's edge, or the price C of an anchor.
@@ -52,13 +60,7 @@ fn rows_of(zoned: usize, count: usize, keys: &[u32], marks: &[[f64; 2]; 512]) ->
     ensures { λ r. ⌜ ((l : List ThirdMark) → Marked zoned count (now (keys .entry)) (now (marks .entry)) l
         → rowsAnswer (r .number) (r .count) (r .rows) ≡ given l) ⌝ }
 {
-    let none = ThirdMark {
-        bar_index: 0,
-        price: 0.0,
-        is_buy: false,
-        ground: Ground::Zone(0.0),
-    };
-    let mut rows = [none; 512];
+    let mut rows = [NO_MARK; 512];
     let mut i = 0usize;
     while i < count {
         rows[i] = row_of(i < zoned, keys[i], marks[i][0], marks[i][1]);
@@ -78,16 +80,10 @@ fn refusal(number: u8) -> ThirdRows
     requires { ⌜ 0 < number ⌝ }
     ensures { λ r. ⌜ rowsAnswer (r .number) (r .count) (r .rows) ≡ refused number ⌝ }
 {
-    let none = ThirdMark {
-        bar_index: 0,
-        price: 0.0,
-        is_buy: false,
-        ground: Ground::Zone(0.0),
-    };
     ThirdRows {
         number,
         count: 0,
-        rows: [none; 512],
+        rows: [NO_MARK; 512],
     }
 }
 

@@ -14,36 +14,24 @@ use Rattle.rules.specs.Records.{Levels, levelsOf, Quotes}
 use Rattle.rules.specs.Marks.{nMarks}
 use Rattle.rules.specs.Refusals.{refuse, endsOutside, zonesRefusal, nRefusal}
 use Rattle.rules.specs.Calls.{onChart, nCall}
+use Rattle.laws.proofs.Tests.{refuse-no}
 use Rattle.zones.specs.Filled.{callNumber}
-use Rattle.zones.proofs.Call.{call-refused, call-given}
+use Rattle.zones.proofs.Call.{Answers, call-by}
 use Rattle.mark_hits.specs.Found.{quotesRefusal}
 use Rattle.mark_hits.proofs.Quotes.{quotes-then, quotes-none}
 use Rattle.three_n.specs.Gather.{ownNumber}
 
 module _ (c : Chart) (q : Quotes) (own : ℕ) (is : own ≡ ownNumber (take (c .«stroke_count») (c .strokes)) q) where
-  abbrev marks : Levels → List NMark
-  marks l = nMarks l q
-
-  abbrev rest : Levels → ℕ
-  rest l = quotesRefusal q (refuse (endsOutside l q) 9 (zonesRefusal l))
-
-  n-is : nCall c q ≡ onChart c (λ (l : Levels). answered (rest l) (marks l))
-  unfolding nCall nRefusal
-  n-is = refl
-
   -- its own number is that of its strokes
   own-is : own ≡ quotesRefusal q (refuse (endsOutside (levelsOf c) q) 9 0)
   unfolding endsOutside levelsOf
   own-is = is
 
-  first : rest (levelsOf c) ≡ cond (eqb own 0) (zonesRefusal (levelsOf c)) own
-  first = rw own-is (quotes-then q (endsOutside (levelsOf c) q) 8 (zonesRefusal (levelsOf c)))
-
-  pub n-refused : (n : ℕ) → n ≡ callNumber c own → (n ≡ 0 → ⊥) → refused n ≡ nCall c q
-  n-refused = call-refused c own rest marks (nCall c q) n-is first
-
-  pub n-given : 0 ≡ callNumber c own → given (nMarks (levelsOf c) q) ≡ nCall c q
-  n-given = call-given c own rest marks (nCall c q) n-is first
+  pub n-by : (n : ℕ) → n ≡ callNumber c own → Answers n (nMarks (levelsOf c) q) (nCall c q)
+  unfolding nCall nRefusal
+  n-by =
+      call-by c own (λ (l : Levels). quotesRefusal q (refuse (endsOutside l q) 9 (zonesRefusal l))) (λ (l : Levels). nMarks l q) (nCall c q) refl
+      (rw own-is (quotes-then q (endsOutside (levelsOf c) q) 8 (zonesRefusal (levelsOf c))))
 
   -- neither 8 and 1 nor 9 applies
   module _ (none : own ≡ 0) where
@@ -51,12 +39,7 @@ module _ (c : Chart) (q : Quotes) (own : ℕ) (is : own ≡ ownNumber (take (c .
     quotes-good = quotes-none q _ (sym own-is ∙ none) .0
 
     pub ends-good : endsOutside (levelsOf c) q ≡ false
-    unfolding refuse
-    ends-good = go (endsOutside (levelsOf c) q) (quotes-none q _ (sym own-is ∙ none) .1)
-      where
-        go : (t : Bool) → refuse t 9 0 ≡ 0 → t ≡ false
-        go true e = absurd (omega (arith, e))
-        go false e = refl
+    ends-good = refuse-no (endsOutside (levelsOf c) q) 8 0 (quotes-none q _ (sym own-is ∙ none) .1)
 
 -- ---- the call's own number, by that of the slices
 
@@ -65,15 +48,7 @@ module _ (q : Quotes) (n : ℕ) (is : n ≡ quotesRefusal q 0) where
   unfolding refuse
   own-quotes k some = sym (quotes-then q false 0 k ∙ rw (← is, ne-eqb n 0 some))
 
-  own-rest : (k : ℕ) → n ≡ 0 → k ≡ quotesRefusal q k
-  unfolding refuse
-  own-rest k none = sym (quotes-then q false 0 k ∙ rw (← is, eq-eqb n 0 none))
-
   -- 9 where a stroke ends outside
-  pub own-ends : (t : Bool) → n ≡ 0 → t ≡ true → 9 ≡ quotesRefusal q (refuse t 9 0)
+  pub own-ends : (t u : Bool) → n ≡ 0 → t ≡ u → refuse u 9 0 ≡ quotesRefusal q (refuse t 9 0)
   unfolding refuse
-  own-ends t none e = rw e (own-rest 9 none)
-
-  pub own-nothing : (t : Bool) → n ≡ 0 → t ≡ false → 0 ≡ quotesRefusal q (refuse t 9 0)
-  unfolding refuse
-  own-nothing t none e = rw e (own-rest 0 none)
+  own-ends t u none e = rw e (sym (quotes-then q false 0 (refuse u 9 0) ∙ rw (← is, eq-eqb n 0 none)))

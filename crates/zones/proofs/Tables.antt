@@ -14,7 +14,7 @@ use Rattle.chart.specs.declared.Range.{Range}
 use Rattle.chart.specs.declared.Range.the-variants.{Found, Missing}
 use Rattle.chart.specs.declared.Zone.{Zone}
 use Rattle.rules.specs.Answer.{given, rowsAnswer}
-use Rattle.rules.specs.Zones.{Member, begin, joins, join, cut, runs, zonesOf, zonesFrom}
+use Rattle.rules.specs.Zones.{Member, opposing, begin, joins, join, cut, runs, zonesOf, zonesFrom}
 use Rattle.laws.proofs.Answers.{given-rows}
 use Rattle.levels.proofs.Read.{no-triple}
 use Rattle.tables.specs.Rows.{Wide, Puts}
@@ -104,28 +104,23 @@ module _ (h d first last : ℕ) (bars : List (List ℕ)) (prices : List (List Fl
   module _ (count : ℕ) (zb : List (List ℕ)) (zp : List (List Float)) (b : Bool) (z : Zone) (i : ℕ) (now : Among count zb zp b z i) where
     -- a record is passed over
     module _ (more : i ≤ last) where
-      past : Each (λ range level. left-of range level i ≡ left-of range level (i + 1)) → Among count zb zp b z (i + 1)
-      past same =
+      past :
+          Each (λ range level. opposing (λ (x : Triple). range (getD level i no-triple)) d i (getD level i no-triple ∷ []) ≡ [])
+          → Among count zb zp b z (i + 1)
+      past none =
           record {
             few = now .few;
             wide = now .wide;
             short = omega (arith, now .short);
-            left = λ range level m inside t. rw (← same range level m inside t) (now .left range level m inside t);
+            left = λ range level m inside t.
+                rw (still-more range level d last i no-triple more (omega (arith, t .count)), none range level m inside t) at (now .left range level m inside t);
           }
 
       pub past-same : getD (getD bars i []) 0 0 ≡ d → Among count zb zp b z (i + 1)
-      past-same e =
-          past
-          (λ range level m inside t.
-          still-more range level d last i no-triple more (omega (arith, t .count))
-          ∙ rw (one-same (λ (x : Triple). range (getD level i no-triple)) d i (getD level i no-triple) (sym (member-way range level m bars prices t i (omega arith)) ∙ e)))
+      past-same e = past (λ range level m inside t. one-same _ d i _ (sym (member-way range level m bars prices t i (omega arith)) ∙ e))
 
       pub past-missing : rangeIn (getD bars i []) (getD prices i []) ≡ Missing → Among count zb zp b z (i + 1)
-      past-missing e =
-          past
-          (λ range level m inside t.
-          still-more range level d last i no-triple more (omega (arith, t .count))
-          ∙ rw (one-missing (λ (x : Triple). range (getD level i no-triple)) d i (getD level i no-triple) (sym (member-range range level m bars prices t i (omega arith)) ∙ e)))
+      past-missing e = past (λ range level m inside t. one-missing _ d i _ (sym (member-range range level m bars prices t i (omega arith)) ∙ e))
 
       -- a member is taken: the run goes on, or is a zone, for which there is a place or none
       module _

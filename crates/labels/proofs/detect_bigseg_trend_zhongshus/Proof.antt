@@ -1,7 +1,7 @@
 -- `labels::detect_bigseg_trend_zhongshus` meets its contract. Assumes nothing.
 use mathlib.Core.Path.{refl, _∙_}
 use borrow.Author.Needs.{needs}
-use Rattle.labels.proofs.Call.{labels-refused, labels-given}
+use Rattle.labels.proofs.Call.{labels-by}
 use Rattle.labels.proofs.detect_bigseg_trend_zhongshus.Statement.{statement}
 use Rattle.labels.proofs.detect_bigseg_trend_zhongshus.Tie as tie
 
@@ -19,7 +19,7 @@ refusal-requires : tie.Need-refusal-requires
 refusal-requires c κs = search needs
 
 returns : tie.Need-returns
-returns c = c .refusal .ensures ∙ labels-refused _ _ (c .before .before .before .tables-of .ensures .0) (c .before .if1 .taken)
+returns c = c .refusal .ensures ∙ labels-by _ _ (c .before .before .before .tables-of .ensures .0) .0 (c .before .if1 .taken)
 
 labels-of-requires : tie.Need-labels-of-requires
 labels-of-requires c κs =
@@ -31,7 +31,7 @@ returns-2 c =
     let known = else1 (c .before) in
     let made = begun known .tables-of .ensures in
     let tables = made .1 .0 (known .if1 .left) in
-    c .labels-of .ensures _ _ (tables .bigs) (tables .zones) ∙ labels-given _ _ (made .0) (known .if1 .left)
+    c .labels-of .ensures _ _ (tables .bigs) (tables .zones) ∙ labels-by _ _ (made .0) .1 (known .if1 .left)
 
 pub detect-bigseg-trend-zhongshus-spec : {M : Type 1} → statement M
 detect-bigseg-trend-zhongshus-spec = tie.close (tie.spec tables-of-requires refusal-requires returns labels-of-requires returns-2)

@@ -7,7 +7,7 @@ use borrow.Author.Needs.{needs}
 use Rattle.zones.proofs.Call.{own-none}
 use Rattle.mark_scan.proofs.Scans.{tables-owners}
 use Rattle.mark_hits.proofs.Quotes.{quotes-fit}
-use Rattle.third.proofs.Call.{third-refused, third-given}
+use Rattle.third.proofs.Call.{third-by}
 use Rattle.third.proofs.Rows.{bars-small}
 use Rattle.third.proofs.bigseg_third_marks_all_zhongshu.Statement.{statement}
 use Rattle.third.proofs.bigseg_third_marks_all_zhongshu.Tie as tie
@@ -49,7 +49,7 @@ refusal-requires c κs = search needs
 returns : tie.Need-returns
 returns c =
     let made = c .before .before .before in
-    c .refusal .ensures ∙ third-refused _ _ _ (priced made .quotes-refusal .ensures) _ (made .tables-of .ensures .0) (c .before .if1 .taken)
+    c .refusal .ensures ∙ third-by _ _ _ (priced made .quotes-refusal .ensures) _ (made .tables-of .ensures .0) .0 (c .before .if1 .taken)
 
 scans-of-requires : tie.Need-scans-of-requires
 scans-of-requires c κs =
@@ -83,7 +83,7 @@ returns-2 c =
     let here = known (at-scans made) in
     let t = begun here .tables-of .ensures .1 .0 (here .if1 .left) in
     c .rows-of .ensures _ (made .thirds-of .ensures .1 _ _ t (at-scans made .scans-of .ensures .1 _ _ t))
-    ∙ third-given _ _ _ (priced (begun here) .quotes-refusal .ensures) (sym (here .if1 .left) ∙ begun here .tables-of .ensures .0)
+    ∙ third-by _ _ _ (priced (begun here) .quotes-refusal .ensures) _ (begun here .tables-of .ensures .0) .1 (here .if1 .left)
 
 pub bigseg-third-marks-all-zhongshu-spec : {M : Type 1} → statement M
 bigseg-third-marks-all-zhongshu-spec =

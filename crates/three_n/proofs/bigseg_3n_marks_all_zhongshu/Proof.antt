@@ -8,7 +8,7 @@ use Rattle.mark_scan.proofs.Scans.{tables-owners}
 use Rattle.mark_hits.proofs.Quotes.{quotes-fit}
 use Rattle.mark_thirds.proofs.Marked.{marked-keys}
 use Rattle.three_n.proofs.Parts.{ends-inside}
-use Rattle.three_n.proofs.Refused.{n-refused, n-given, quotes-good, ends-good}
+use Rattle.three_n.proofs.Refused.{n-by, quotes-good, ends-good}
 use Rattle.three_n.proofs.bigseg_3n_marks_all_zhongshu.Statement.{statement}
 use Rattle.three_n.proofs.bigseg_3n_marks_all_zhongshu.Tie as tie
 
@@ -50,7 +50,7 @@ refusal-requires c κs = search needs
 returns : tie.Need-returns
 returns c =
     let made = c .before .before .before in
-    c .refusal .ensures ∙ n-refused _ (quotes (priced made)) _ (priced made .own-number .ensures) _ (made .tables-of .ensures .0) (c .before .if1 .taken)
+    c .refusal .ensures ∙ n-by _ (quotes (priced made)) _ (priced made .own-number .ensures) _ (made .tables-of .ensures .0) .0 (c .before .if1 .taken)
 
 scans-of-requires : tie.Need-scans-of-requires
 scans-of-requires c κs =
@@ -100,7 +100,7 @@ returns-2 c =
     let own = priced (begun here) in
     let ready = rows-by-requires (c .before .before) (c .before .rows-by .lifetimes) .1 .1 in
     c .before .rows-by .ensures _ ready
-    ∙ n-given _ (quotes own) _ (own .own-number .ensures) (sym (here .if1 .left) ∙ begun here .tables-of .ensures .0)
+    ∙ n-by _ (quotes own) _ (own .own-number .ensures) _ (begun here .tables-of .ensures .0) .1 (here .if1 .left)
 
 pub bigseg-3n-marks-all-zhongshu-spec : {M : Type 1} → statement M
 bigseg-3n-marks-all-zhongshu-spec =

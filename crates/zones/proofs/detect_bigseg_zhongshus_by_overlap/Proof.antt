@@ -1,7 +1,8 @@
 -- `zones::detect_bigseg_zhongshus_by_overlap` meets its contract. Assumes nothing.
-use mathlib.Core.Path.{refl, _∙_}
+use mathlib.Core.Path.{refl, ap, _∙_}
 use borrow.Author.Needs.{needs}
-use Rattle.zones.proofs.Call.{zones-refused, zones-given}
+use Rattle.rules.specs.Answer.{given}
+use Rattle.zones.proofs.Call.{zones-by}
 use Rattle.zones.proofs.detect_bigseg_zhongshus_by_overlap.Statement.{statement}
 use Rattle.zones.proofs.detect_bigseg_zhongshus_by_overlap.Tie as tie
 
@@ -19,7 +20,7 @@ refusal-requires : tie.Need-refusal-requires
 refusal-requires c κs = search needs
 
 returns : tie.Need-returns
-returns c = c .refusal .ensures ∙ zones-refused _ _ (c .before .before .before .tables-of .ensures .0) (c .before .if1 .taken)
+returns c = c .refusal .ensures ∙ zones-by _ _ (c .before .before .before .tables-of .ensures .0) .0 (c .before .if1 .taken)
 
 rows-of-requires : tie.Need-rows-of-requires
 rows-of-requires c κs =
@@ -29,8 +30,8 @@ rows-of-requires c κs =
 returns-2 : tie.Need-returns-2
 returns-2 c =
     let known = else1 (c .before) in
-    let made = begun known .tables-of in
-    c .rows-of .ensures ∙ zones-given _ _ _ _ _ (made .ensures .0) (known .if1 .left) (made .ensures .1 .0 (known .if1 .left) .zones)
+    let made = begun known .tables-of .ensures in
+    c .rows-of .ensures ∙ ap given (made .1 .0 (known .if1 .left) .zones .are) ∙ zones-by _ _ (made .0) .1 (known .if1 .left)
 
 pub detect-bigseg-zhongshus-by-overlap-spec : {M : Type 1} → statement M
 detect-bigseg-zhongshus-by-overlap-spec =
