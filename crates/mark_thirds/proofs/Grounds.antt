@@ -1,20 +1,21 @@
--- The mark of a hit over its ground, which is a zone or an anchor. Assumes nothing.
+-- The mark of a hit over its ground, which is a zone or an anchor, and the marks of all. Assumes nothing.
 use Prim.Native.Nat.{ℕ, _<_, _≤_}
 use native.Mathlib.Omega.{arith}
 use mathlib.Core.Path.{_≡_, refl, ap, _∙_}
 use mathlib.Core.Bool.{Bool, true, false, cond}
-use mathlib.Core.List.{List, [], _∷_}
+use mathlib.Core.List.{List, [], _∷_, foldl, foldl-append}
 use mathlib.Core.Option.{Option, none, some}
 use lib.ListN.{length, getD, drop}
 use lib.Ieee.{Float, nan}
 use Rattle.chart.specs.declared.Stroke.{Stroke}
 use Rattle.chart.specs.declared.ThirdMark.{ThirdMark}
 use Rattle.chart.specs.declared.Zone.{Zone}
-use Rattle.rules.specs.Lists.{find}
+use Rattle.rules.specs.Lists.{find, each}
 use Rattle.rules.specs.Records.{isUp, Levels, Quotes}
-use Rattle.rules.specs.Marks.{beats, stops, pairEnds, scanned, thirdAt, sideOf, edgeOf, zoneThird, anchorThird}
+use Rattle.rules.specs.Zones.{overlapZones}
+use Rattle.rules.specs.Marks.{beats, stops, pairEnds, scanned, thirdAt, sideOf, edgeOf, zoneThird, anchorThird, addThird, thirdMarks}
 use Rattle.laws.proofs.Lists.{lt-at, at-getD}
-use Rattle.tables.specs.Tables.{Zoned}
+use Rattle.tables.specs.Tables.{Zoned, Bigs}
 use Rattle.tables.proofs.Zones.{no-zone, zd-of, zg-of}
 use Rattle.mark_scan.specs.declared.Scan.{Scan}
 use Rattle.mark_scan.specs.Scan.{Limits, ZoneScan, scanIn, Scans}
@@ -25,9 +26,10 @@ use Rattle.mark_hits.specs.Found.{hitBar, LentPrice}
 use Rattle.mark_hits.proofs.Lent.{side-short}
 use Rattle.mark_hits.specs.declared.Price.the-variants as price
 use Rattle.mark_hits.specs.declared.Anchor.{Anchor}
-use Rattle.mark_hits.specs.Anchors.{barsIn, priceOf, AnchorAt}
+use Rattle.mark_hits.specs.declared.Side.{Side}
+use Rattle.mark_hits.specs.Anchors.{barsIn, priceOf, AnchorAt, Anchoring}
 use Rattle.mark_hits.proofs.Anchors.{bars-behind}
-use Rattle.mark_thirds.specs.Third.{groundOf, OnBar, hitMarks}
+use Rattle.mark_thirds.specs.Third.{groundOf, OnBar, hitMarks, Marked, AnchorMarks}
 
 -- ---- hits
 
@@ -84,3 +86,15 @@ module _ (c : Levels) (q : Quotes) (buy : Bool) (a : Stroke) (x : Anchor) (at : 
   unfolding anchorThird
   anchor-is p e zone no-zone h found w =
       rw (anchorThird, at .price ∙ ap priceOf e, bars-behind c buy a x at, found, no-zone) (hit-marks q false buy p h w)
+
+-- ---- the marks of all zones and anchors
+
+-- the rows have the marks of the zones, and then those of the anchors too
+pub marked-whole :
+    (c : Levels) (q : Quotes) (s : Side) (n : ℕ) (bars : List (List ℕ)) (prices : List (List Float)) (zoned r : ℕ) (keys : List ℕ)
+    (marks : List (List Float)) (keys' : List ℕ) (marks' : List (List Float)) → Anchoring c s → s .bigs ≡ n → Bigs c n bars prices
+    → Marked zoned zoned keys marks (foldl addThird [] (each (zoneThird c q (overlapZones c)) (overlapZones c)))
+    → AnchorMarks s bars prices q zoned keys marks r keys' marks' → Marked zoned r keys' marks' (thirdMarks c q)
+unfolding thirdMarks
+marked-whole c q s n bars prices zoned r keys marks keys' marks' a e t w anchors =
+    rw (← a .anchors, ← a .buy, foldl-append) (anchors c _ (rw e t) w)

@@ -87,13 +87,6 @@ ZoneHit m bars prices s p q r =
     (c : Levels) (stop : ℕ → Bool) → Bigs c m bars prices → Limits (s .limit) stop
     → find (beats q (isUp (s .direction)) p) (pairEnds c stop (s .direction) (drop (s .from) (c .bigs))) ≡ hitBar r
 
--- the first r keys and rows are the marks of the zones with these scans and prices
-abbrev pub ZoneMarks :
-    Counts → List (List ℕ) → List (List Float) → List (List ℕ) → List (List Float) → Quotes → ℕ → List ℕ → List (List Float) → Type 0
-ZoneMarks n bars prices scans zp q r keys marks =
-    (c : Levels) (zs : List Zone) (zb : List (List ℕ)) → Bigs c (n .bigs) bars prices → Scans c zs (n .zones) scans → Zoned zs (n .zones) zb zp
-    → Marked r r keys marks (foldl addThird [] (each (zoneThird c q zs) zs))
-
 -- ---- anchors
 
 -- the first hit among the ends, behind a bar, of the bigs of the other direction from place `from` on

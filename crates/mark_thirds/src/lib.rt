@@ -24,7 +24,6 @@ ghost use Rattle.mark_thirds.specs.Third.{
   OnBar,
   PutsHit,
   ZoneHit,
-  ZoneMarks,
   AnchorHit,
   AnchorMarks,
   GathersThirds,
@@ -130,35 +129,6 @@ fn edge_of(direction: u32, zd: f64, zg: f64) -> f64
     zd
 }
 
-// The marks of the zones, in order; how many they are. Lent are the scans of the zones and their prices.
-fn zone_marks(
-    bars: &[[u16; 6]; 256],
-    prices: &[[f64; 3]; 256],
-    scans: &[[u32; 4]; 256],
-    zp: &[[f64; 4]; 256],
-    counts: Counts,
-    highs: &[f64],
-    lows: &[f64],
-    keys: &mut [u32],
-    marks: &mut [[f64; 2]; 512],
-) -> usize
-    requires { ⌜ Fits counts × (length (now highs) ≤ 0x1_0000) × (length (now lows) ≤ 0x1_0000) × Places (now keys) (now marks) ⌝ }
-    ensures { λ r. ⌜ (r ≤ counts .zones) × SamePlaces (now (keys .entry)) (now (keys .exit)) (now (marks .exit)) ⌝ }
-    ensures { λ r. ⌜ ZoneMarks counts (now (bars .entry)) (now (prices .entry)) (now (scans .entry)) (now (zp .entry))
-        (record { highs = now (highs .entry); lows = now (lows .entry) }) r (now (keys .exit)) (now (marks .exit)) ⌝ }
-{
-    let mut count = 0usize;
-    let mut i = 0usize;
-    while i < counts.zones {
-        let scan = mark_scan::scan_at(scans, i);
-        let edge = edge_of(scan.direction, zp[i][0], zp[i][1]);
-        let hit = zone_hit(bars, prices, counts.bigs, scan, edge, highs, lows);
-        count = put_hit(keys, marks, count, hit, scan.direction == 1, edge);
-        i += 1;
-    }
-    count
-}
-
 // ---- anchors
 
 // The first hit among the bigs of the other direction from place `from` on that end behind the anchor's bar.
@@ -255,7 +225,15 @@ pub fn thirds_of(
         (record { highs = now (highs .entry); lows = now (lows .entry) }) r (now (keys .exit)) (now (marks .exit))
         ⌝ }
 {
-    let zoned = zone_marks(bars, prices, scans, zp, counts, highs, lows, keys, marks);
+    let mut zoned = 0usize;
+    let mut i = 0usize;
+    while i < counts.zones {
+        let scan = mark_scan::scan_at(scans, i);
+        let edge = edge_of(scan.direction, zp[i][0], zp[i][1]);
+        let hit = zone_hit(bars, prices, counts.bigs, scan, edge, highs, lows);
+        zoned = put_hit(keys, marks, zoned, hit, scan.direction == 1, edge);
+        i += 1;
+    }
     let side = mark_hits::side_of(sups, counts);
     let all = anchor_marks(bars, prices, side, highs, lows, zoned, keys, marks);
     Thirds { zoned, all }
