@@ -8,10 +8,10 @@ use mathlib.Core.List.{List, [], _∷_, _++_, map, append-nil}
 use mathlib.Core.Option.{Option, none, some}
 use mathlib.Core.Logic.{_⊎_, inl, inr}
 use lib.ListN.{length, take, drop, getD, getElem?, set}
-use lib.Seq.{take-suc, getD-set-same, getD-set-other}
-use lib.Dec.{ltb}
+use lib.Seq.{take-suc, getD-at, getD-set-same, getD-set-other}
+use lib.Dec.{eqb, ltb}
 use lib.Ieee.{Float, nan}
-use borrow.Author.Tests.{eq-eqb, ne-eqb, lt-ltb, ltb-true}
+use borrow.Author.Tests.{eq-eqb, ne-eqb, eqb-true, eqb-false, lt-ltb, ltb-true}
 use Rattle.chart.specs.declared.Stroke.{Stroke}
 use Rattle.chart.specs.declared.Triple.{Triple}
 use Rattle.chart.specs.declared.EndPoint.the-variants as point
@@ -20,7 +20,7 @@ use Rattle.rules.specs.Records.{isUp, Levels}
 use Rattle.rules.specs.Ranges.{lastStroke}
 use Rattle.rules.specs.Marks.{anchorsOf, anchorSide, anchorBars, endsAfter, anchorPrice}
 use Rattle.laws.proofs.Tests.{length-snoc, none-some}
-use Rattle.laws.proofs.Lists.{lt-at, at-getD}
+use Rattle.laws.proofs.Lists.{at-left, at-lt, lt-at, at-getD}
 use Rattle.levels.proofs.Read.{no-triple, no-stroke, clipped}
 use Rattle.tables.specs.declared.Counts.{Counts}
 use Rattle.tables.specs.Rows.{Wide}
@@ -143,34 +143,22 @@ module _ (row : List ℕ) (c : Float) (from : ℕ) (is : from ≡ getD row 1 0) 
   pub row-priced : (getD row 2 0 ≡ 0 → ⊥) → record { bar = getD row 0 0; from = from; price = price.At c } ≡ anchorIn row c
   row-priced e = rw (is, ne-eqb _ _ e)
 
-some-inj : {A : Type 0} {x y : A} → some x ≡ some y → x ≡ y
-some-inj e = cc
-
--- the last element of a list, or one before it
-pub snoc-at : {A : Type 0} (l : List A) (x y : A) (i : ℕ) → getElem? (l ++ x ∷ []) i ≡ some y → ((getElem? l i ≡ some y) × (i < length l)) ⊎ ((i ≡ length l) × (x ≡ y))
-snoc-at [] x y zero e = inr (refl, some-inj e)
-snoc-at [] x y (suc i) e = absurd (none-some e)
-snoc-at (z ∷ l) x y zero e = inl (e, omega arith)
-snoc-at (z ∷ l) x y (suc i) e = go (snoc-at l x y i e)
-  where
-    go : ((getElem? l i ≡ some y) × (i < length l)) ⊎ ((i ≡ length l) × (x ≡ y)) → ((getElem? l i ≡ some y) × (suc i < suc (length l))) ⊎ ((suc i ≡ suc (length l)) × (x ≡ y))
-    go (inl w) = inl (w .0, omega (arith, w .1))
-    go (inr w) = inr (omega (arith, w .0), w .1)
-
 -- one element more of a list whose elements stand in two columns
 pub column-more :
     {A X Y : Type 0} (P : ℕ → A → X → Y → Type 0) (n : ℕ) (l : List A) (xs : List X) (ys : List Y) (a : A) (x u : X) (y v : Y)
     → length l ≡ n → n < length xs → n < length ys → ((i : ℕ) (b : A) → getElem? l i ≡ some b → P i b (getD xs i u) (getD ys i v)) → P n a x y
     → (i : ℕ) (b : A) → getElem? (l ++ a ∷ []) i ≡ some b → P i b (getD (set xs n x) i u) (getD (set ys n y) i v)
-column-more P n l xs ys a x u y v many p q are here i b e = go (snoc-at l a b i e)
+column-more P n l xs ys a x u y v many p q are here i b e = go (eqb i n) refl
   where
-    go : ((getElem? l i ≡ some b) × (i < length l)) ⊎ ((i ≡ length l) × (a ≡ b)) → P i b (getD (set xs n x) i u) (getD (set ys n y) i v)
-    go (inl f) =
-        let other : i ≡ n → ⊥ = λ w. omega (arith, f .1, many, w) in
-        rw (getD-set-other xs n i x u other, getD-set-other ys n i y v other) (are i b (f .0))
-    go (inr f) =
-        let same : i ≡ n = f .0 ∙ many in
-        rw (same, getD-set-same xs n x u p, getD-set-same ys n y v q, ← f .1) here
+    go : (t : Bool) → eqb i n ≡ t → P i b (getD (set xs n x) i u) (getD (set ys n y) i v)
+    go true f =
+        let same = eqb-true i n f in
+        let own : a ≡ b = sym (getD-at l a [] a n many) ∙ (rw same at (at-getD (l ++ a ∷ []) i a b e)) in
+        rw (same, getD-set-same xs n x u p, getD-set-same ys n y v q, ← own) here
+    go false f =
+        let other = eqb-false i n f in
+        let there = lt-at l i (omega (arith, other, many, at-lt (l ++ a ∷ []) i b e, length-snoc l a)) in
+        rw (getD-set-other xs n i x u other, getD-set-other ys n i y v other) (are i b (there .1 ∙ sym (at-left l (a ∷ []) i (there .0) (there .1)) ∙ e))
 
 -- one anchor more
 
