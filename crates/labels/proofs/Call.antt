@@ -10,8 +10,8 @@ use Rattle.rules.specs.Labels.{labelsFrom, labels}
 use Rattle.rules.specs.Refusals.{labelsRefusal}
 use Rattle.rules.specs.Calls.{labelsCall}
 use Rattle.zones.specs.Filled.{callNumber}
-use Rattle.zones.proofs.Call.{Answers, call-by}
+use Rattle.zones.proofs.Call.{AnswersBy, call-by}
 
-pub labels-by : (c : Chart) (n : ℕ) → n ≡ callNumber c 0 → Answers n (labelsFrom (levelsOf c) none (overlapZones (levelsOf c))) (labelsCall c)
+pub labels-by : (c : Chart) (n : ℕ) → n ≡ callNumber c 0 → AnswersBy n (labelsFrom (levelsOf c) none (overlapZones (levelsOf c))) (labelsCall c)
 unfolding labelsCall labels
 labels-by c = call-by c 0 labelsRefusal labels (labelsCall c) refl refl

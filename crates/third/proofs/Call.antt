@@ -14,10 +14,10 @@ use Rattle.rules.specs.Calls.{onChart, thirdCall}
 use Rattle.mark_hits.specs.Found.{quotesRefusal}
 use Rattle.mark_hits.proofs.Quotes.{quotes-then}
 use Rattle.zones.specs.Filled.{callNumber}
-use Rattle.zones.proofs.Call.{Answers, call-by}
+use Rattle.zones.proofs.Call.{AnswersBy, call-by}
 
 pub third-by :
-    (c : Chart) (q : Quotes) (own : ℕ) → own ≡ quotesRefusal q 0 → (n : ℕ) → n ≡ callNumber c own → Answers n (thirdMarks (levelsOf c) q) (thirdCall c q)
+    (c : Chart) (q : Quotes) (own : ℕ) → own ≡ quotesRefusal q 0 → (n : ℕ) → n ≡ callNumber c own → AnswersBy n (thirdMarks (levelsOf c) q) (thirdCall c q)
 unfolding thirdCall thirdRefusal refuse
 third-by c q own is =
     call-by c own (λ (l : Levels). quotesRefusal q (zonesRefusal l)) (λ (l : Levels). thirdMarks l q) (thirdCall c q) refl

@@ -16,7 +16,7 @@ use Rattle.rules.specs.Refusals.{refuse, endsOutside, zonesRefusal, nRefusal}
 use Rattle.rules.specs.Calls.{onChart, nCall}
 use Rattle.laws.proofs.Tests.{refuse-no}
 use Rattle.zones.specs.Filled.{callNumber}
-use Rattle.zones.proofs.Call.{Answers, call-by}
+use Rattle.zones.proofs.Call.{AnswersBy, call-by}
 use Rattle.mark_hits.specs.Found.{quotesRefusal}
 use Rattle.mark_hits.proofs.Quotes.{quotes-then, quotes-none}
 use Rattle.three_n.specs.Gather.{ownNumber}
@@ -27,7 +27,7 @@ module _ (c : Chart) (q : Quotes) (own : ℕ) (is : own ≡ ownNumber (take (c .
   unfolding endsOutside levelsOf
   own-is = is
 
-  pub n-by : (n : ℕ) → n ≡ callNumber c own → Answers n (nMarks (levelsOf c) q) (nCall c q)
+  pub n-by : (n : ℕ) → n ≡ callNumber c own → AnswersBy n (nMarks (levelsOf c) q) (nCall c q)
   unfolding nCall nRefusal
   n-by =
       call-by c own (λ (l : Levels). quotesRefusal q (refuse (endsOutside l q) 9 (zonesRefusal l))) (λ (l : Levels). nMarks l q) (nCall c q) refl

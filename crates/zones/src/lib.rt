@@ -1,6 +1,7 @@
 // The overlap rule, once for every level: the zones of owners over the records of a level, which stand in tables; what a call on a chart
 // begins with; and the zone call.
 use chart::Chart;
+use chart::NO_ZONE;
 use chart::Range;
 use chart::Span;
 use chart::Zone;
@@ -70,19 +71,6 @@ fn join(z: Zone, s: Span) -> Zone
         members: z.members + 1,
     }
 }
-
-// What stands in a row that is not counted.
-pub const NO_ZONE: Zone = Zone {
-    sup_idx: 0,
-    start_bar: 0,
-    end_bar: 0,
-    zd: 0.0,
-    zg: 0.0,
-    dd: 0.0,
-    gg: 0.0,
-    first_member: 0,
-    members: 0,
-};
 
 // The scan behind a member: the run, and whether the run before it is a zone now.
 struct Taken {
