@@ -116,10 +116,7 @@ module _
                 marks =
                     λ c t l.
                     let rest = each (anchorNumbered c q (s .buy)) (drop (i + 1) (anchorsIn c s)) in
-                    let old = marksIn q (take count keys) (take count orders) in
-                    let own = numbers-at c q (s .buy) (a c) x (here c t) p e in
+                    let here-first = rw (one c t, numbers-at c q (s .buy) (a c) x (here c t) p e) at (so-far .marks c t l) in
                     let stops : Limits limit (reaches (anchorStop c (s .buy))) = rw l (stroke-limit (anchorStop c (s .buy))) in
-                    ap (λ (ms : List NMark). foldl push3N ms rest) (marks c _ t stops ∙ ap (foldl push3N old) (sym own))
-                    ∙ sym (foldl-append push3N old (anchorNumbered c q (s .buy) (a c)) rest)
-                    ∙ (rw (one c t) at (so-far .marks c t l));
+                    rw (marks c _ t stops, ← foldl-append push3N _ _ rest) here-first;
               }

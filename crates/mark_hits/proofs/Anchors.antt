@@ -37,12 +37,9 @@ use Rattle.mark_hits.proofs.Ends.{ends-over, ends-nowhere, ends-soon, n
 
 -- ---- a place before which no big ends behind a bar
 
-ends-all : (c : Levels) (up : Bool) (bar : ℕ) → endsAfter c up bar ≡ endsIn c up bar (c .bigs)
-unfolding endsAfter
-ends-all c up bar = refl
-
 pub none-first : (c : Levels) (bar : ℕ) → NoneBefore c bar 0
-none-first c bar up = ends-all c up bar
+unfolding endsAfter
+none-first c bar up = refl
 
 -- what passes the second of two tests passes the first
 keep-twice : {A : Type 0} (p q : A → Bool) → ((x : A) → q x ≡ true → p x ≡ true) → (xs : List A) → keep q (keep p xs) ≡ keep q xs
@@ -57,7 +54,7 @@ keep-twice p q w (x ∷ xs) = go (p x) refl (q x) refl (keep-twice p q w xs)
 -- it is one for every later bar
 pub none-later : (c : Levels) (last place after : ℕ) → last ≤ after → NoneBefore c last place → NoneBefore c after place
 none-later c last place after h before up =
-    ends-all c up after ∙ sym (again (c .bigs)) ∙ ap (keep (later after)) (sym (ends-all c up last) ∙ before up) ∙ again (drop place (c .bigs))
+    none-first c after up ∙ sym (again (c .bigs)) ∙ ap (keep (later after)) (sym (none-first c last up) ∙ before up) ∙ again (drop place (c .bigs))
   where
     later : ℕ → Stroke → Bool
     later bar s = ltb bar (s .«end_bar»)

@@ -13,22 +13,20 @@ use Rattle.rules.specs.Refusals.{refuse, unequal, badSlices, badQuotes}
 use Rattle.laws.proofs.Tests.{or-l, or-r, refuse-no, refuse-on}
 use Rattle.mark_hits.specs.Found.{quotesRefusal}
 
+-- r is the number k, or before it that of `own`, and one more refusal stands before both
+refuse-then :
+    (b : Bool) (n k r own : ℕ) → r ≡ cond (eqb own 0) k own
+    → refuse b (suc n) r ≡ cond (eqb (refuse b (suc n) own) 0) k (refuse b (suc n) own)
+unfolding refuse
+refuse-then true n k r own e = rw (ne-eqb (suc n) 0 (λ z. omega (arith, z)))
+refuse-then false n k r own e = e
+
 -- 8, 1, or the number n where t, and else what follows
 pub quotes-then :
     (q : Quotes) (t : Bool) (n k : ℕ)
     → quotesRefusal q (refuse t (suc n) k)
     ≡ cond (eqb (quotesRefusal q (refuse t (suc n) 0)) 0) k (quotesRefusal q (refuse t (suc n) 0))
-unfolding refuse
-quotes-then q t n k = go (badSlices q) (badQuotes q) t
-  where
-    go :
-        (a b t : Bool)
-        → refuse a 8 (refuse b 1 (refuse t (suc n) k))
-        ≡ cond (eqb (refuse a 8 (refuse b 1 (refuse t (suc n) 0))) 0) k (refuse a 8 (refuse b 1 (refuse t (suc n) 0)))
-    go true b t = refl
-    go false true t = refl
-    go false false true = rw (ne-eqb (suc n) 0 (λ e. omega (arith, e)))
-    go false false false = refl
+quotes-then q t n k = refuse-then (badSlices q) 7 k _ _ (refuse-then (badQuotes q) 0 k _ _ (refuse-then t n k k 0 refl))
 
 -- none of them applies
 pub quotes-none : (q : Quotes) (k : ℕ) → quotesRefusal q k ≡ 0 → (0 ≡ quotesRefusal q 0) × (k ≡ 0)

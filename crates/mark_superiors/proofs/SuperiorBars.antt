@@ -116,10 +116,7 @@ module _ (h : ℕ) (scans : List (List ℕ)) (n : Counts) (from : ℕ) (bars : L
                 record {
                   rest = rest;
                   block = record { stand = there .1; owned = all-right (z ∷ []) rest (b .owned); above = b .above };
-                  bars =
-                      ap (λ (l : List ℕ). foldl insertBar l behind) met
-                      ∙ sym (foldl-append insertBar (take k out) (scanned c (overlapZones c) z) behind)
-                      ∙ e;
+                  bars = rw (met, ← foldl-append insertBar _ _ behind) e;
                 }
 
         pub taken-next : r ≤ 257 → length out' ≡ 257 → ZonesSoFar h scans n from bars prices out' r (i + 1)

@@ -112,7 +112,5 @@ module _ (sups scans bars : List (List ℕ)) (prices : List (List Float)) (n : C
                   let now = rw (met c s, way) at (marks q thirds (so-far .grown .stay ∙ z)) in
                   let more-left : drop i (c .superiors) ≡ t ∷ drop (i + 1) (c .superiors) = rw (add-one i) (drop-cons (c .superiors) i no-triple (inside c s)) in
                   let here = rw (more-left, superiors-more c q zs thirds i t (drop (i + 1) (c .superiors))) at (so-far .left c q thirds s z) in
-                  ap (λ (l : List NMark). foldl push3N l rest) now
-                  ∙ sym (foldl-append push3N (marksIn q (take count keys) (take count orders)) (barMarks q thirds (isUp (t .direction)) (scannedBars c zs i)) rest)
-                  ∙ here;
+                  rw (now, ← foldl-append push3N _ _ rest) here;
             }

@@ -107,9 +107,5 @@ module _ (bars : List (List ℕ)) (prices : List (List Float)) (m : ℕ) (scan :
                   λ c t a.
                   subst (RisingAmong (endBars c)) (sym put)
                   (among-more (endBars c) (take count out) (bar ∷ []) (so-far .among c t a) (cons (bar-end c t) nil));
-              left =
-                  λ c stop t lim.
-                  ap (λ (l : List ℕ). foldl insertBar l (pairEnds c stop (scan .direction) (drop next (c .bigs)))) put
-                  ∙ sym (ap (foldl insertBar (take count out)) (here c stop t lim))
-                  ∙ so-far .left c stop t lim;
+              left = λ c stop t lim. rw put (rw (here c stop t lim) at (so-far .left c stop t lim));
             }

@@ -112,9 +112,6 @@ module _ (zoned count : ℕ) (keys : List ℕ) (marks : List (List Float)) (l : 
       → Marked zoned count keys marks (foldl addThird l (hitMarks zone buy p hit))
   hit-put key bar x e f w = rw e (rw (f, key-bar bar buy, key-side bar buy) at w)
 
-pub on-bar : (hit : Hit) (bar : ℕ) (x : Float) → OnBar hit → hit ≡ At bar x → bar < 0x1_0000
-on-bar hit bar x w e = subst OnBar e w
-
 -- ---- the marks that come of a list, one after the other
 
 module _ {A : Type 0} (f : A → List ThirdMark) (zoned count : ℕ) (keys : List ℕ) (marks : List (List Float)) (l : List ThirdMark) (xs : List A) (i : ℕ) where

@@ -55,12 +55,6 @@ SamePlaces keys keys' marks' = (length keys' ≡ length keys) × (length marks' 
 abbrev pub OneMore : ℕ → ℕ → Type 0
 OneMore count r = (count ≤ r) × (r ≤ count + 1)
 
--- where the first `count` are some marks, the first r are those and this mark
-abbrev pub PutsMark : ℕ → ℕ → Float → Float → List ℕ → List (List Float) → ℕ → List ℕ → List (List Float) → Type 0
-PutsMark count key x p keys marks r keys' marks' =
-    (zoned : ℕ) (l : List ThirdMark) → Marked zoned count keys marks l
-    → Marked zoned r keys' marks' (addThird l (thirdIn (ltb count zoned) key (x ∷ p ∷ [])))
-
 -- ---- hits
 
 -- a hit's bar is one

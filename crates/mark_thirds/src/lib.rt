@@ -20,7 +20,6 @@ ghost use Rattle.mark_thirds.specs.Third.{
   Places,
   SamePlaces,
   OneMore,
-  PutsMark,
   OnBar,
   PutsHit,
   ZoneHit,
@@ -45,29 +44,8 @@ fn seen(keys: &[u32], n: usize, key: u32) -> bool
     met
 }
 
-// Puts a mark behind the first `count`, if its key is not among theirs; how many there are then. So the first of the marks of a bar and a
-// side is kept, with its ground.
-fn put(
-    keys: &mut [u32],
-    marks: &mut [[f64; 2]; 512],
-    count: usize,
-    key: u32,
-    x: f64,
-    p: f64,
-) -> usize
-    requires { ⌜ (count < 512) × Places (now keys) (now marks) ⌝ }
-    ensures { λ r. ⌜ OneMore count r × SamePlaces (now (keys .entry)) (now (keys .exit)) (now (marks .exit)) ⌝ }
-    ensures { λ r. ⌜ PutsMark count key x p (now (keys .entry)) (now (marks .entry)) r (now (keys .exit)) (now (marks .exit)) ⌝ }
-{
-    if seen(keys, count, key) {
-        return count;
-    }
-    keys[count] = key;
-    marks[count] = [x, p];
-    count + 1
-}
-
-// As put, for the mark of a hit of a side, over the ground's price p; where there is no hit, the marks stay.
+// Puts the mark of a hit of a side, over the ground's price p, behind the first `count`, if its key is not among theirs; how many there are
+// then. So the first of the marks of a bar and a side is kept, with its ground. Where there is no hit, the marks stay.
 fn put_hit(
     keys: &mut [u32],
     marks: &mut [[f64; 2]; 512],
@@ -84,7 +62,12 @@ fn put_hit(
         return count;
     };
     let key = mark_rows::key_of(bar as u16, buy);
-    put(keys, marks, count, key, x, p)
+    if seen(keys, count, key) {
+        return count;
+    }
+    keys[count] = key;
+    marks[count] = [x, p];
+    count + 1
 }
 
 // ---- zones

@@ -1,10 +1,19 @@
 -- `mark_thirds::put_hit` meets its contract. Assumes nothing.
 use native.Mathlib.Omega.{arith}
-use mathlib.Core.Path.{refl}
+use mathlib.Core.Path.{refl, subst}
+use lib.ListN.{length-set}
 use borrow.Author.Needs.{needs}
-use Rattle.mark_thirds.proofs.Marked.{hit-none, hit-put, on-bar}
+use Rattle.mark_thirds.specs.Third.{OnBar}
+use Rattle.mark_thirds.proofs.Marked.{hit-none, hit-put, put-repeat, put-new}
 use Rattle.mark_thirds.proofs.put_hit.Statement.{statement}
 use Rattle.mark_thirds.proofs.put_hit.Tie as tie
+
+-- the places of the code that the proof goes back to
+abbrev told : tie.After-seen → tie.After-hit
+told c = c .before .before .before .before
+
+abbrev start : tie.After-hit → tie.Start
+start c = c .before .before .before
 
 enum-known-hit : tie.Need-enum-known-hit
 enum-known-hit c = search needs
@@ -14,34 +23,59 @@ enum-told c = search needs
 
 returns : tie.Need-returns
 returns c =
-    let start = c .before .before .before in (
-      ((omega arith, omega arith), (refl, start .pre .1 .1)),
-      λ zoned l w. hit-none zoned _ _ _ l _ _ _ (start .args .hit) (c .enum-told .given .1) w,
+    let begun = c .before .before .before in (
+      ((omega arith, omega arith), (refl, begun .pre .1 .1)),
+      λ zoned l w. hit-none zoned _ _ _ l _ _ _ (begun .args .hit) (c .enum-told .given .1) w,
     )
 
 cast-key-of : tie.Need-cast-key-of
-cast-key-of c =
-    let told = c .before in
-    let start = told .before .before .before in
-    record { fits = on-bar (start .args .hit) _ _ (start .pre .2) (told .hit .given .1) }
+cast-key-of c = record { fits = subst OnBar (c .before .hit .given .1) (start (c .before) .pre .2) }
 
 key-of-requires : tie.Need-key-of-requires
 key-of-requires c κs = search needs
 
-put-requires : tie.Need-put-requires
-put-requires c κs = search needs
+seen-requires : tie.Need-seen-requires
+seen-requires c κs = search needs
 
 same-length : tie.Need-same-length
 same-length c = search needs
 
 returns-2 : tie.Need-returns-2
 returns-2 c =
-    let at-put = c .before .before in
-    let at-key = at-put .before .before .before in
-    let told = at-key .before .before in
-    let start = told .before .before .before in (
-      at-put .put .ensures .0,
-      λ zoned l w. hit-put zoned _ _ _ l _ (start .args .buy) _ (start .args .hit) _ _ _ (told .hit .given .1) (at-key .key-of .ensures) (at-put .put .ensures .1 zoned l w),
+    let at-seen = c .before in
+    let begun = start (told at-seen) in (
+      ((omega arith, omega arith), (refl, begun .pre .1 .1)),
+      λ zoned l w.
+          hit-put zoned _ _ _ l _ (begun .args .buy) _ (begun .args .hit) _ _ _ (told at-seen .hit .given .1) (at-seen .before .before .key-of .ensures)
+          (put-repeat zoned _ _ _ l w _ _ (begun .args .p) (omega (arith, begun .pre)) _ (at-seen .seen .ensures) (c .if1 .taken)),
+    )
+
+mul-keys : tie.Need-mul-keys
+mul-keys c = search needs
+
+slice-write-keys : tie.Need-slice-write-keys
+slice-write-keys c = search needs
+
+mul-t14 : tie.Need-mul-t14
+mul-t14 c = search needs
+
+element-set-from-marks : tie.Need-element-set-from-marks
+element-set-from-marks c = search needs
+
+add-result : tie.Need-add-result
+add-result c = search needs
+
+same-length-2 : tie.Need-same-length-2
+same-length-2 c = search needs
+
+returns-3 : tie.Need-returns-3
+returns-3 c =
+    let at-seen = c .before in
+    let begun = start (told at-seen) in (
+      ((omega arith, omega arith), (simp length-set, simp length-set (begun .pre .1 .1))),
+      λ zoned l w.
+          hit-put zoned _ _ _ l _ (begun .args .buy) _ (begun .args .hit) _ _ _ (told at-seen .hit .given .1) (at-seen .before .before .key-of .ensures)
+          (put-new zoned _ _ _ l w _ _ (begun .args .p) (omega (arith, begun .pre)) _ (at-seen .seen .ensures) (omega (arith, begun .pre)) (c .if1 .left)),
     )
 
 pub put-hit-spec : {M : Type 1} → statement M
@@ -53,6 +87,13 @@ put-hit-spec =
     returns
     cast-key-of
     key-of-requires
-    put-requires
+    seen-requires
     same-length
-    returns-2)
+    returns-2
+    mul-keys
+    slice-write-keys
+    mul-t14
+    element-set-from-marks
+    add-result
+    same-length-2
+    returns-3)
