@@ -1,9 +1,8 @@
 -- The label call on a chart: refused with 21 or 11, or given the labels. Assumes nothing.
 use Prim.Native.Nat.{ℕ}
-use mathlib.Core.Path.{_≡_, refl, sym, _∙_}
+use mathlib.Core.Path.{_≡_, refl}
 use mathlib.Core.Option.{none}
 use Rattle.chart.specs.declared.Chart.{Chart}
-use Rattle.rules.specs.Answer.{refused, given}
 use Rattle.rules.specs.Records.{levelsOf}
 use Rattle.rules.specs.Zones.{overlapZones}
 use Rattle.rules.specs.Labels.{labelsFrom, labels}

@@ -2,14 +2,13 @@
 use Prim.Native.Nat.{ℕ, _+_, _<_, _≤_}
 use native.Mathlib.Omega.{arith}
 use native.Mathlib.Numerals.{add-one}
-use mathlib.Core.Path.{_≡_, refl, sym, ap, _∙_}
+use mathlib.Core.Path.{_≡_, refl, ap, _∙_}
 use mathlib.Core.Bool.{Bool}
 use mathlib.Core.List.{List, [], _∷_, foldl, foldl-append}
 use lib.ListN.{take, drop, getD, drop-of-length-le}
 use lib.Seq.{drop-cons}
 use lib.Ieee.{Float, nan}
 use Rattle.chart.specs.declared.Stroke.{Stroke}
-use Rattle.chart.specs.declared.NMark.{NMark}
 use Rattle.rules.specs.Lists.{each}
 use Rattle.rules.specs.Records.{Levels, Quotes}
 use Rattle.rules.specs.Marks.{push3N, anchorBars, anchorStop, anchorNumbered, reaches}

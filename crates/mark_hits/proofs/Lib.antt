@@ -1,4 +1,3 @@
-pub mod Lent
 pub mod Quotes
 pub mod Hits
 pub mod Ends

@@ -10,7 +10,6 @@ use lib.Seq.{drop-cons}
 use lib.Ieee.{Float}
 use Rattle.chart.specs.declared.Triple.{Triple}
 use Rattle.chart.specs.declared.ThirdMark.{ThirdMark}
-use Rattle.chart.specs.declared.NMark.{NMark}
 use Rattle.chart.specs.declared.Zone.{Zone}
 use Rattle.rules.specs.Records.{isUp, Levels, Quotes}
 use Rattle.rules.specs.Zones.{overlapZones}

@@ -23,7 +23,7 @@ use Rattle.mark_scan.proofs.Scans.{scanned-is}
 use Rattle.mark_hits.specs.declared.Hit.{Hit}
 use Rattle.mark_hits.specs.declared.Hit.the-variants.{At, Nothing}
 use Rattle.mark_hits.specs.Found.{hitBar, LentPrice}
-use Rattle.mark_hits.proofs.Lent.{side-short}
+use Rattle.mark_hits.proofs.Quotes.{side-short}
 use Rattle.mark_hits.specs.declared.Price.the-variants as price
 use Rattle.mark_hits.specs.declared.Anchor.{Anchor}
 use Rattle.mark_hits.specs.declared.Side.{Side}

@@ -2,7 +2,7 @@
 use Prim.Native.Nat.{ℕ, zero, suc, _+_, _*_, _/_, _%_, _<_, _≤_}
 use native.Mathlib.Omega.{arith}
 use native.Mathlib.Numerals.{add-one}
-use mathlib.Core.Path.{_≡_, refl, sym, ap, subst, _∙_}
+use mathlib.Core.Path.{_≡_, refl, sym, ap, _∙_}
 use mathlib.Core.Bool.{Bool, true, false, cond, _&&_, Bool·beq}
 use mathlib.Core.List.{List, [], _∷_, map, foldl, append-nil, foldl-append}
 use mathlib.Core.Option.{some}
@@ -21,7 +21,7 @@ use Rattle.mark_rows.proofs.Gathered.{key-bar, key-side, key-same}
 use Rattle.mark_hits.proofs.Anchors.{column-more}
 use Rattle.mark_hits.specs.declared.Hit.{Hit}
 use Rattle.mark_hits.specs.declared.Hit.the-variants.{At, Nothing}
-use Rattle.mark_thirds.specs.Third.{thirdIn, Marked, OnBar, hitMarks}
+use Rattle.mark_thirds.specs.Third.{thirdIn, Marked, hitMarks}
 
 -- ---- keys
 

@@ -10,14 +10,13 @@ use lib.Ieee.{Float, nan}
 use Rattle.chart.specs.declared.Ground.{Ground}
 use Rattle.chart.specs.declared.Ground.the-variants as ground
 use Rattle.chart.specs.declared.ThirdMark.{ThirdMark}
-use Rattle.chart.specs.declared.Zone.{Zone}
 use Rattle.rules.specs.Lists.{find, each}
 use Rattle.rules.specs.Records.{isUp, Levels, Quotes}
-use Rattle.rules.specs.Marks.{beats, pairEnds, zoneThird, anchorThird, addThird, thirdMarks}
+use Rattle.rules.specs.Marks.{beats, pairEnds, anchorThird, addThird, thirdMarks}
 use Rattle.tables.specs.declared.Counts.{Counts}
-use Rattle.tables.specs.Tables.{Bigs, Zoned, Tables}
+use Rattle.tables.specs.Tables.{Bigs, Tables}
 use Rattle.mark_scan.specs.declared.Scan.{Scan}
-use Rattle.mark_scan.specs.Scan.{Limits, Scans, Scanned}
+use Rattle.mark_scan.specs.Scan.{Limits, Scanned}
 use Rattle.mark_hits.specs.declared.Hit.{Hit}
 use Rattle.mark_hits.specs.declared.Hit.the-variants.{At, Nothing}
 use Rattle.mark_hits.specs.Found.{hitBar}

@@ -1,16 +1,12 @@
 -- The call on a chart: refused with 21, with 8 or 1, with 11, or given the marks of its zones and anchors. Assumes nothing.
 use Prim.Native.Nat.{ℕ}
 use mathlib.Core.Path.{_≡_, refl}
-use mathlib.Core.Bool.{false, cond}
-use mathlib.Core.List.{List}
-use lib.Dec.{eqb}
-use Rattle.chart.specs.declared.ThirdMark.{ThirdMark}
+use mathlib.Core.Bool.{false}
 use Rattle.chart.specs.declared.Chart.{Chart}
-use Rattle.rules.specs.Answer.{refused, given, answered}
 use Rattle.rules.specs.Records.{Levels, levelsOf, Quotes}
 use Rattle.rules.specs.Marks.{thirdMarks}
 use Rattle.rules.specs.Refusals.{refuse, zonesRefusal, thirdRefusal}
-use Rattle.rules.specs.Calls.{onChart, thirdCall}
+use Rattle.rules.specs.Calls.{thirdCall}
 use Rattle.mark_hits.specs.Found.{quotesRefusal}
 use Rattle.mark_hits.proofs.Quotes.{quotes-then}
 use Rattle.zones.specs.Filled.{callNumber}

@@ -3,7 +3,7 @@ use Prim.Native.Nat.{ℕ, _+_, _<_, _≤_}
 use native.Mathlib.Omega.{arith}
 use native.Mathlib.Numerals.{add-one}
 use mathlib.Core.Path.{_≡_, ap, _∙_}
-use mathlib.Core.Bool.{Bool, true, false, cond}
+use mathlib.Core.Bool.{false}
 use mathlib.Core.List.{List, []}
 use lib.ListN.{length, getD, set, take}
 use lib.Seq.{take-suc, take-suc-set, take-all}
@@ -17,7 +17,7 @@ use Rattle.rules.specs.Marks.{side, quote, thirdMarks}
 use Rattle.laws.proofs.Answers.{given-rows}
 use Rattle.laws.proofs.Lists.{lt-at, at-lt, at-getD, all-at}
 use Rattle.laws.proofs.Thirds.{thirds-beyond}
-use Rattle.mark_hits.proofs.Lent.{side-short}
+use Rattle.mark_hits.proofs.Quotes.{side-short}
 use Rattle.mark_rows.specs.Rows.{barIn}
 use Rattle.mark_thirds.specs.Third.{thirdIn, Marked}
 

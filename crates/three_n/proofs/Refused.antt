@@ -1,19 +1,14 @@
 -- The 3+N call on a chart, by the number that it begins with: refused, or given its marks. Assumes nothing.
 use Prim.Native.Nat.{ℕ}
-use native.Mathlib.Omega.{arith}
 use mathlib.Core.Path.{_≡_, refl, sym, _∙_}
-use mathlib.Core.Bool.{Bool, true, false, cond}
-use mathlib.Core.List.{List}
+use mathlib.Core.Bool.{Bool, false}
 use lib.ListN.{take}
-use lib.Dec.{eqb}
 use borrow.Author.Tests.{eq-eqb, ne-eqb}
 use Rattle.chart.specs.declared.Chart.{Chart}
-use Rattle.chart.specs.declared.NMark.{NMark}
-use Rattle.rules.specs.Answer.{given, refused, answered}
 use Rattle.rules.specs.Records.{Levels, levelsOf, Quotes}
 use Rattle.rules.specs.Marks.{nMarks}
 use Rattle.rules.specs.Refusals.{refuse, endsOutside, zonesRefusal, nRefusal}
-use Rattle.rules.specs.Calls.{onChart, nCall}
+use Rattle.rules.specs.Calls.{nCall}
 use Rattle.laws.proofs.Tests.{refuse-no}
 use Rattle.zones.specs.Filled.{callNumber}
 use Rattle.zones.proofs.Call.{AnswersBy, call-by}

@@ -1,6 +1,6 @@
 -- `mark_hits::quote_at` meets its contract. Assumes nothing.
 use borrow.Author.Needs.{needs}
-use Rattle.mark_hits.proofs.Lent.{quote-outside, quote-inside}
+use Rattle.mark_hits.proofs.Quotes.{quote-outside, quote-inside}
 use Rattle.mark_hits.proofs.quote_at.Statement.{statement}
 use Rattle.mark_hits.proofs.quote_at.Tie as tie
 

@@ -2,7 +2,7 @@
 use native.Mathlib.Omega.{arith}
 use mathlib.Core.Path.{sym, _∙_}
 use borrow.Author.Tests.{not-true, not-false}
-use Rattle.mark_hits.proofs.Lent.{refuse-unequal, refuse-long, refuse-prices, refuse-none}
+use Rattle.mark_hits.proofs.Quotes.{refuse-unequal, refuse-long, refuse-prices, refuse-none}
 use borrow.Author.Needs.{needs}
 use Rattle.mark_hits.proofs.quotes_refusal.Statement.{statement}
 use Rattle.mark_hits.proofs.quotes_refusal.Tie as tie
