@@ -164,5 +164,6 @@ module _
                     marks =
                         λ c stop t l.
                         let pushed = rw (is-key, mark-key q bar (a .buy) order) at (marks q) in
-                        rw pushed (rw (hits-more q (a .buy) (a .price) stop order bar _ hit u tried tested (l bar small ∙ sym test ∙ f) g) at (opened c stop t l));
+                        let on = l bar small ∙ sym test ∙ f in
+                        rw pushed (rw (hits-more q (a .buy) (a .price) stop order bar _ hit u tried tested on g) at (opened c stop t l));
                   }

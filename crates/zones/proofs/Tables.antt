@@ -113,7 +113,8 @@ module _ (h d first last : ℕ) (bars : List (List ℕ)) (prices : List (List Fl
             wide = now .wide;
             short = omega (arith, now .short);
             left = λ range level m inside t.
-                rw (still-more range level d last i no-triple more (omega (arith, t .count)), none range level m inside t) at (now .left range level m inside t);
+                rw (still-more range level d last i no-triple more (omega (arith, t .count)), none range level m inside t) at
+                (now .left range level m inside t);
           }
 
       pub past-same : getD (getD bars i []) 0 0 ≡ d → Among count zb zp b z (i + 1)

@@ -49,8 +49,11 @@ enum-told c = search needs
 returns : tie.Need-returns Inv-loop μ-loop
 returns c =
     let found = c .before .before in
-    let head = found .before .before .before .before in
-    (tt, λ l t. hits-over (beat head) _ _ (head .loop .inv l t) (bars-over l (start head .args .side .buy) _ (head .loop .k) (found .next-end .result) (found .next-end .ensures .1 l t) (c .enum-told .given .1)))
+    let head = found .before .before .before .before in (
+      tt,
+      λ l t. hits-over (beat head) _ _ (head .loop .inv l t)
+          (bars-over l (start head .args .side .buy) _ (head .loop .k) (found .next-end .result) (found .next-end .ensures .1 l t) (c .enum-told .given .1)),
+    )
 
 cast-hit-at : tie.Need-cast-hit-at Inv-loop μ-loop
 cast-hit-at c = search needs
@@ -68,7 +71,8 @@ returns-2 c =
     let found = told .before .before in
     let head = found .before .before .before .before in (
       tried .hit-at .ensures .0,
-      λ l t. hit-first (beat head) _ _ (head .loop .inv l t) _ _ (bars-next l (start head .args .side .buy) _ (head .loop .k) (found .next-end .result) (found .next-end .ensures .1 l t) _ _ _ (told .end .given .1))
+      λ l t. hit-first (beat head) _ _ (head .loop .inv l t) _ _
+          (bars-next l (start head .args .side .buy) _ (head .loop .k) (found .next-end .result) (found .next-end .ensures .1 l t) _ _ _ (told .end .given .1))
           (tried .hit-at .result) (tried .hit-at .ensures .1) _ (c .before .is-hit .ensures) (c .if2 .taken),
     )
 
@@ -86,7 +90,8 @@ loop-again c =
     let told = tried .before .before in
     let found = told .before .before in
     let head = found .before .before .before .before in
-    λ l t. hit-later (beat head) _ _ (head .loop .inv l t) _ _ (bars-next l (start head .args .side .buy) _ (head .loop .k) (found .next-end .result) (found .next-end .ensures .1 l t) _ _ _ (told .end .given .1))
+    λ l t. hit-later (beat head) _ _ (head .loop .inv l t) _ _
+    (bars-next l (start head .args .side .buy) _ (head .loop .k) (found .next-end .result) (found .next-end .ensures .1 l t) _ _ _ (told .end .given .1))
     (tried .hit-at .result) (tried .hit-at .ensures .1) _ (c .before .is-hit .ensures) (c .if2 .left)
 
 returns-3 : tie.Need-returns-3 Inv-loop μ-loop

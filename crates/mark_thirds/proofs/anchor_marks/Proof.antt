@@ -17,7 +17,7 @@ use Rattle.mark_hits.specs.Anchors.{anchorsIn}
 use Rattle.mark_hits.proofs.Anchors.{anchor-here}
 use Rattle.mark_thirds.specs.Third.{Marked}
 use Rattle.mark_thirds.proofs.Marked.{marked-next, marked-all}
-use Rattle.mark_thirds.proofs.Grounds.{hit-on-bar, anchor-nowhere, anchor-is}
+use Rattle.mark_thirds.proofs.HitMarks.{hit-on-bar, anchor-nowhere, anchor-is}
 use Rattle.mark_thirds.proofs.anchor_marks.Statement.{statement}
 use Rattle.mark_thirds.proofs.anchor_marks.Tie as tie
 

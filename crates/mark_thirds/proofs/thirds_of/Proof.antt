@@ -15,7 +15,7 @@ use Rattle.tables.proofs.Zones.{no-zone}
 use Rattle.mark_scan.specs.Scan.{Scanned}
 use Rattle.mark_thirds.specs.Third.{Marked}
 use Rattle.mark_thirds.proofs.Marked.{marked-none, marked-next, marked-all, marked-zoned}
-use Rattle.mark_thirds.proofs.Grounds.{hit-on-bar, third-at, marked-whole}
+use Rattle.mark_thirds.proofs.HitMarks.{hit-on-bar, third-at, marked-whole}
 use Rattle.mark_thirds.proofs.thirds_of.Statement.{statement}
 use Rattle.mark_thirds.proofs.thirds_of.Tie as tie
 
@@ -128,7 +128,8 @@ returns c =
       (kept .1, (kept .2 .0 ∙ inv .2, kept .2 .1)),
       λ l zb t s.
           let zs = overlapZones l in
-          let zoned = marked-all (zoneThird l (quotes head) zs) 512 _ _ _ [] zs (head .loop .i) (omega (arith, done .if1 .left, t .zones .count)) (inv .4 l zb t s) in
+          let i = head .loop .i in
+          let zoned = marked-all (zoneThird l (quotes head) zs) 512 _ _ _ [] zs i (omega (arith, done .if1 .left, t .zones .count)) (inv .4 l zb t s) in
           marked-whole _ _ _ _ _ _ _ _ _ _ _ _ (side .side-of .ensures .1 _ (t .bigs .count) (t .superiors)) (side .side-of .ensures .0 .0) (t .bigs)
           (marked-zoned 512 _ _ _ _ zoned (omega (arith, inv .0, inv .1, start head .pre .0 .zones))) (anchors .anchor-marks .ensures .1),
     )

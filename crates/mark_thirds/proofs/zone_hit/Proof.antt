@@ -42,8 +42,11 @@ enum-told c = search needs
 returns : tie.Need-returns Inv-loop μ-loop
 returns c =
     let found = c .before .before in
-    let head = found .before .before in
-    (tt, λ l stop t lim. hits-over _ _ _ (head .loop .inv l stop t lim) (pair-over _ _ _ _ (found .next-pair .ensures .1 l stop t lim) (c .enum-told .given .1)))
+    let head = found .before .before in (
+      tt,
+      λ l stop t lim. hits-over _ _ _ (head .loop .inv l stop t lim)
+          (pair-over _ _ _ _ (found .next-pair .ensures .1 l stop t lim) (c .enum-told .given .1)),
+    )
 
 hit-at-requires : tie.Need-hit-at-requires Inv-loop μ-loop
 hit-at-requires c κs = search needs
@@ -58,7 +61,8 @@ returns-2 c =
     let found = told .before .before in
     let head = found .before .before in (
       tried .hit-at .ensures .0,
-      λ l stop t lim. hit-first _ _ _ (head .loop .inv l stop t lim) _ _ (pair-next _ _ _ _ (found .next-pair .ensures .1 l stop t lim) _ _ (told .pair .given .1))
+      λ l stop t lim. hit-first _ _ _ (head .loop .inv l stop t lim) _ _
+          (pair-next _ _ _ _ (found .next-pair .ensures .1 l stop t lim) _ _ (told .pair .given .1))
           (tried .hit-at .result) (tried .hit-at .ensures .1) _ (c .before .is-hit .ensures) (c .if1 .taken),
     )
 
@@ -76,13 +80,17 @@ loop-again c =
     let told = tried .before .before in
     let found = told .before .before in
     let head = found .before .before in
-    λ l stop t lim. hit-later _ _ _ (head .loop .inv l stop t lim) _ _ (pair-next _ _ _ _ (found .next-pair .ensures .1 l stop t lim) _ _ (told .pair .given .1))
+    λ l stop t lim. hit-later _ _ _ (head .loop .inv l stop t lim) _ _
+    (pair-next _ _ _ _ (found .next-pair .ensures .1 l stop t lim) _ _ (told .pair .given .1))
     (tried .hit-at .result) (tried .hit-at .ensures .1) _ (c .before .is-hit .ensures) (c .if1 .left)
 
 returns-3 : tie.Need-returns-3 Inv-loop μ-loop
 returns-3 c =
-    let head = c .before in
-    (tt, λ l stop t lim. hits-over _ _ _ (head .loop .inv l stop t lim) (pairs-none _ _ _ _ _ (head .loop .at) l stop t lim _ refl (omega (arith, c .loop-test .left))))
+    let head = c .before in (
+      tt,
+      λ l stop t lim. hits-over _ _ _ (head .loop .inv l stop t lim)
+          (pairs-none _ _ _ _ _ (head .loop .at) l stop t lim _ refl (omega (arith, c .loop-test .left))),
+    )
 
 pub zone-hit-spec : {M : Type 1} → statement M
 zone-hit-spec =
