@@ -1,11 +1,11 @@
 -- What the structs of this crate stand for in the definitions of classes. Assumes nothing.
 use Prim.Native.Nat.{ℕ, zero, suc, _<_, _≤_}
 use mathlib.Core.Path.{_≡_}
-use mathlib.Core.Bool.{Bool, true, false, _&&_}
+use mathlib.Core.Bool.{Bool, true, false}
 use mathlib.Core.List.{List, [], _∷_, _++_}
 use mathlib.Core.Option.{Option, none, some}
 use lib.ListN.{length, getD, getElem?, take}
-use lib.Dec.{eqb, ltb}
+use lib.Dec.{eqb}
 use lib.Ieee.{Float, nan}
 use Rattle.chart.specs.declared.Stroke.{Stroke}
 use Rattle.chart.specs.declared.Triple.{Triple}
@@ -15,7 +15,7 @@ use Rattle.rules.specs.Lists.{any, isNone, collect}
 use Rattle.rules.specs.Records.{Levels}
 use Rattle.rules.specs.Refusals.{refuse, aboveOne, lacks}
 use Rattle.rules.specs.Classes.{Item, item, segmentItem, bigItem, case2, case3, endsBefore, wanted, tried, classes}
-use Rattle.levels.specs.Read.{heldIf}
+use Rattle.levels.specs.Read.{strokeIf}
 use Rattle.classes.specs.declared.Item as struct
 use Rattle.classes.specs.declared.End.{End}
 use Rattle.classes.specs.declared.End.the-variants.{At, Nowhere}
@@ -120,11 +120,10 @@ abbrev pub itemIn : Bool → Levels → Triple → Option Item
 itemIn true c = bigItem c
 itemIn false c = segmentItem c
 
--- Of the record t over a level of m records in a chart of n strokes, where u is t over strokes, s and e the strokes at u's first and last.
--- A record counts only where its index is below its number
+-- of the record t over a level of m records in a chart of n strokes, where u is t over strokes, s and e the strokes at u's first and last
 unfoldable pub itemFrom : ℕ → ℕ → Triple → Triple → Stroke → Stroke → Option Item
 itemFrom m n t u s e =
-    item (t .direction) (heldIf (ltb (t .first) m && ltb (u .first) n) s) (heldIf (ltb (t .last) m && ltb (u .last) n) e)
+    item (t .direction) (strokeIf m n (t .first) (u .first) s) (strokeIf m n (t .last) (u .last) e)
 
 abbrev pub readOf : ItemRead → Option Item
 readOf (There x) = some (itemOf x)

@@ -489,11 +489,11 @@ fn items_of(chart: Chart, bigs: bool) -> Gathered
         let big = chart.bigs[k];
         let segment = chart.segments[k];
         let t = chosen(bigs, big, segment);
-        let a = chart.segments[at_most(t.first, 255) as usize];
-        let z = chart.segments[at_most(t.last, 255) as usize];
+        let a = chart.segments[levels::within(t.first, 256)];
+        let z = chart.segments[levels::within(t.last, 256)];
         let u = over_strokes(bigs, t, a, z);
-        let s = chart.strokes[at_most(u.first, 511) as usize];
-        let e = chart.strokes[at_most(u.last, 511) as usize];
+        let s = chart.strokes[levels::within(u.first, 512)];
+        let e = chart.strokes[levels::within(u.last, 512)];
         let read = item_from(t, u, s, e, below, strokes);
         let ItemRead::There(x) = read else {
             return got;

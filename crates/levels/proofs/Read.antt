@@ -20,7 +20,8 @@ use Rattle.rules.specs.Lists.{andThen}
 use Rattle.rules.specs.Records.{Levels, levelsOf}
 use Rattle.rules.specs.Ranges.{firstStroke, lastStroke, spanned, rangeOf, endPoint}
 use Rattle.laws.proofs.Arrays.{at-in, at-out}
-use Rattle.levels.specs.Read.{SafeIndex, heldIf, rangeFrom}
+use Rattle.laws.proofs.Tests.{pick-cond}
+use Rattle.levels.specs.Read.{SafeIndex, heldIf, strokeIf, rangeFrom}
 
 -- what an array's place outside holds
 abbrev pub no-triple : Triple
@@ -37,14 +38,6 @@ clipped n k l e = by (leb n k) refl
     by true h = let same : min n k ≡ n = omega (arith, leb-true n k h) in rw same
     by false h = take-all (min n k) l (omega (arith, leb-false n k h)) ∙ sym (take-all n l (omega (arith, leb-false n k h)))
 
--- a place of a level of n records in an array of k, m being the smaller of the two
-module _ {A : Type 0} (n k m i : ℕ) (xs : List A) (l : length xs ≡ k) (e : m ≡ min n k) where
-  pub inside : (d : A) → i < m → getElem? (take n xs) i ≡ some (getD xs i d)
-  inside d h = at-in n i xs d (omega arith) (omega arith)
-
-  pub past : m ≤ i → getElem? (take n xs) i ≡ none
-  past h = rw (← clipped n k xs l, ← e) (at-out m i xs h)
-
 -- ---- one way through range_from each
 module _ (m n : ℕ) (b a z : Triple) (s e : Stroke) where
   pub from-reversed : b .last < b .first → Missing ≡ rangeFrom m n b a z s e
@@ -57,73 +50,82 @@ module _ (m n : ℕ) (b a z : Triple) (s e : Stroke) where
   no-end (some s) = refl
 
   pub from-no-segment : b .first ≤ b .last → m ≤ b .last → Missing ≡ rangeFrom m n b a z s e
-  unfolding rangeFrom
+  unfolding rangeFrom strokeIf
   from-no-segment h k = rw (le-leb _ _ h, le-ltb _ _ k) (no-end _)
 
   pub from-no-first : b .first ≤ b .last → b .last < m → n ≤ a .first → Missing ≡ rangeFrom m n b a z s e
-  unfolding rangeFrom spanned
+  unfolding rangeFrom strokeIf spanned
   from-no-first h k l = let f : b .first < m = omega arith in rw (le-leb _ _ h, lt-ltb _ _ f, le-ltb _ _ l)
 
   pub from-no-last : b .first ≤ b .last → b .last < m → n ≤ z .last → Missing ≡ rangeFrom m n b a z s e
-  unfolding rangeFrom
+  unfolding rangeFrom strokeIf
   from-no-last h k l = rw (le-leb _ _ h, lt-ltb _ _ k, le-ltb _ _ l) (no-end _)
 
   pub from-found :
       b .first ≤ b .last → b .last < m → a .first < n → z .last < n → spanned (some s) (some e) ≡ rangeFrom m n b a z s e
-  unfolding rangeFrom
+  unfolding rangeFrom strokeIf
   from-found h k l r = let f : b .first < m = omega arith in simp (le-leb _ _ h, lt-ltb _ _ f, lt-ltb _ _ k, lt-ltb _ _ l, lt-ltb _ _ r)
 
 -- ---- records read at safe indices
 
+-- a record of the first n, that at i being read at p
+pub held :
+    {A : Type 0} (n i p : ℕ) (xs : List A) (d : A) → n ≤ length xs → (i < n → p ≡ i) → heldIf (ltb i n) (getD xs p d) ≡ getElem? (take n xs) i
+held {A = A} n i p xs d long same = pick-cond (λ (o : Option A). o ≡ getElem? (take n xs) i) (ltb i n) _ _ there (λ w. sym (at-out n i xs (ltb-false i n w)))
+  where
+    there : ltb i n ≡ true → some (getD xs p d) ≡ getElem? (take n xs) i
+    there w = let below = ltb-true i n w in rw (same below) (sym (at-in n i xs d below (omega arith)))
+
 -- the stroke that a segment names, the segment at i being read at k, and the stroke at p
-pub reached :
+pub held-through :
     (m n i k p : ℕ) (xs : List Triple) (ys : List Stroke) (f : Triple → ℕ) → m ≤ length xs → n ≤ length ys
     → (i < m → k ≡ i) → (f (getD xs k no-triple) < n → p ≡ f (getD xs k no-triple))
-    → heldIf (ltb i m && ltb (f (getD xs k no-triple)) n) (getD ys p no-stroke)
-    ≡ andThen (getElem? (take m xs) i) (λ (t : Triple). getElem? (take n ys) (f t))
-reached m n i k p xs ys f lx ly same at-p = by (ltb i m) refl (ltb (f (getD xs k no-triple)) n) refl
+    → strokeIf m n i (f (getD xs k no-triple)) (getD ys p no-stroke) ≡ andThen (getElem? (take m xs) i) (λ (t : Triple). getElem? (take n ys) (f t))
+unfolding strokeIf
+held-through m n i k p xs ys f lx ly same at-p = by (ltb i m) refl
   where
     by :
-        (u : Bool) → ltb i m ≡ u → (v : Bool) → ltb (f (getD xs k no-triple)) n ≡ v
-        → heldIf (u && v) (getD ys p no-stroke) ≡ andThen (getElem? (take m xs) i) (λ (t : Triple). getElem? (take n ys) (f t))
-    by false u v w = rw (at-out m i xs (ltb-false _ _ u))
-    by true u v w =
+        (u : Bool) → ltb i m ≡ u
+        → heldIf (u && ltb (f (getD xs k no-triple)) n) (getD ys p no-stroke) ≡ andThen (getElem? (take m xs) i) (λ (t : Triple). getElem? (take n ys) (f t))
+    by false u = rw (at-out m i xs (ltb-false i m u))
+    by true u =
         let below = ltb-true i m u in
         let here : i ≡ k = sym (same below) in
-        rw (here, at-in m k xs no-triple (omega arith) (omega arith)) (stroke v w)
-      where
-        stroke :
-            (v : Bool) → ltb (f (getD xs k no-triple)) n ≡ v
-            → heldIf v (getD ys p no-stroke) ≡ getElem? (take n ys) (f (getD xs k no-triple))
-        stroke false w = sym (at-out n _ ys (ltb-false _ _ w))
-        stroke true w =
-            let below = ltb-true (f (getD xs k no-triple)) n w in
-            rw (at-p below) (sym (at-in n (f (getD xs k no-triple)) ys no-stroke below (omega arith)))
+        rw (here, at-in m k xs no-triple (omega arith) (omega arith)) (held n (f (getD xs k no-triple)) p ys no-stroke ly at-p)
 
-module _ (c : Chart) (m n : ℕ) (b : Triple) (i j p q : ℕ) where
+-- the strokes of a big, and so its range
+module _
+    (c : Chart) (segments : length (c .segments) ≡ 256) (strokes : length (c .strokes) ≡ 512) (few : c .«segment_count» ≤ 256)
+    (low : c .«stroke_count» ≤ 512) (b : Triple) (f : Triple → ℕ) (k p : ℕ)
+  where
+    abbrev segment : Triple
+    segment = getD (c .segments) k no-triple
+
+    pub stroke-read :
+        SafeIndex (f b) 256 k → SafeIndex (f segment) 512 p
+        → strokeIf (c .«segment_count») (c .«stroke_count») (f b) (f segment) (getD (c .strokes) p no-stroke)
+        ≡ andThen (getElem? (levelsOf c .segments) (f b)) (λ (t : Triple). getElem? (levelsOf c .strokes) (f t))
+    unfolding levelsOf
+    stroke-read wk wp =
+        held-through _ _ (f b) k p (c .segments) (c .strokes) f (omega arith) (omega arith) (λ h. wk .same (omega arith)) (λ h. wp .same (omega arith))
+
+module _ (c : Chart) (b : Triple) (i j p q : ℕ) where
   abbrev a : Triple
   a = getD (c .segments) i no-triple
 
   abbrev z : Triple
   z = getD (c .segments) j no-triple
 
-  -- the range by such records is the big's
   pub range-read :
-      length (c .segments) ≡ 256 → length (c .strokes) ≡ 512 → m ≡ min (c .«segment_count») 256 → n ≡ min (c .«stroke_count») 512
+      length (c .segments) ≡ 256 → length (c .strokes) ≡ 512 → c .«segment_count» ≤ 256 → c .«stroke_count» ≤ 512
       → SafeIndex (b .first) 256 i → SafeIndex (b .last) 256 j → SafeIndex (a .first) 512 p → SafeIndex (z .last) 512 q
-      → rangeFrom m n b a z (getD (c .strokes) p no-stroke) (getD (c .strokes) q no-stroke) ≡ rangeOf (levelsOf c) b
-  unfolding rangeFrom rangeOf firstStroke lastStroke levelsOf
-  range-read ls lt em en wi wj wp wq =
+      → rangeFrom (c .«segment_count») (c .«stroke_count») b a z (getD (c .strokes) p no-stroke) (getD (c .strokes) q no-stroke) ≡ rangeOf (levelsOf c) b
+  unfolding rangeFrom rangeOf firstStroke lastStroke
+  range-read ls lt few low wi wj wp wq =
       rw (
-        ← clipped (c .«segment_count») 256 (c .segments) ls,
-        ← clipped (c .«stroke_count») 512 (c .strokes) lt,
-        ← em,
-        ← en,
-        reached m n (b .first) i p (c .segments) (c .strokes) (λ (t : Triple). t .first) (omega arith) (omega arith) (λ h. wi .same (omega arith)) (λ h. wp .same (omega arith)),
-        reached m n (b .last) j q (c .segments) (c .strokes) (λ (t : Triple). t .last) (omega arith) (omega arith) (λ h. wj .same (omega arith)) (λ h. wq .same (omega arith)),
+        stroke-read c ls lt few low b (λ (t : Triple). t .first) i p wi wp,
+        stroke-read c ls lt few low b (λ (t : Triple). t .last) j q wj wq,
       )
-
--- ---- the table
 
 -- ---- one way through end_point_of each
 module _ (c : Levels) (i : ℕ) where

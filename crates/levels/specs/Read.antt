@@ -19,10 +19,14 @@ pub record SafeIndex (i n k : ℕ) : Type 0 where
 abbrev pub heldIf : {A : Type 0} → Bool → A → Option A
 heldIf t x = cond t (some x) none
 
--- Of the big b in a chart of m segments and n strokes, where a and z are the segments at b's first and last, s and e the strokes at a's
--- first and z's last. A record counts only where its index is below its number
+-- In a chart of m segments and n strokes, the stroke s that was read at index j of the segment that was read at index i. A record counts only
+-- where its index is below its number
+unfoldable pub strokeIf : ℕ → ℕ → ℕ → ℕ → Stroke → Option Stroke
+strokeIf m n i j s = heldIf (ltb i m && ltb j n) s
+
+-- the range of the big b by such records: a and z are the segments at b's first and last, s and e the strokes at a's first and z's last
 unfoldable pub rangeFrom : ℕ → ℕ → Triple → Triple → Triple → Stroke → Stroke → Range
 rangeFrom m n b a z s e =
     cond (leb (b .first) (b .last))
-    (spanned (heldIf (ltb (b .first) m && ltb (a .first) n) s) (heldIf (ltb (b .last) m && ltb (z .last) n) e))
+    (spanned (strokeIf m n (b .first) (a .first) s) (strokeIf m n (b .last) (z .last) e))
     Missing

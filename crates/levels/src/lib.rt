@@ -8,7 +8,7 @@ use chart::Triple;
 ghost use mathlib.Core.Path.{_≡_};
 ghost use mathlib.Core.Bool.{true, false, _||_};
 ghost use mathlib.Core.Option.{some};
-ghost use Prim.Native.Nat.{_≤_, _<_, min};
+ghost use Prim.Native.Nat.{_≤_, _<_};
 ghost use lib.Dec.{ltb};
 ghost use lib.ListN.{take};
 ghost use Rattle.rules.specs.Lists.{any};
@@ -129,13 +129,6 @@ pub fn bad_chart(chart: Chart) -> bool
 
 // ---- ranges
 
-// A count, or the size of its array where it is above that: either way the same list.
-fn at_most(n: u16, size: u16) -> u16
-    ensures { λ r. ⌜ r ≡ min n size ⌝ }
-{
-    if n < size { n } else { size }
-}
-
 // i where it is below n, and some place below n elsewhere.
 pub fn within(i: u16, n: u16) -> usize
     requires { ⌜ 0 < n ⌝ }
@@ -186,10 +179,9 @@ pub fn range_from(
 
 // The range of a big, without 21.
 fn range_of(chart: Chart, big: Triple) -> Range
+    requires { ⌜ (chart .«segment_count» ≤ 256) × (chart .«stroke_count» ≤ 512) ⌝ }
     ensures { λ r. ⌜ r ≡ rangeOf (levelsOf chart) big ⌝ }
 {
-    let segments = at_most(chart.segment_count, 256);
-    let strokes = at_most(chart.stroke_count, 512);
     let i = within(big.first, 256);
     let j = within(big.last, 256);
     let a = chart.segments[i];
@@ -198,7 +190,7 @@ fn range_of(chart: Chart, big: Triple) -> Range
     let q = within(z.last, 512);
     let s = chart.strokes[p];
     let e = chart.strokes[q];
-    range_from(big, a, z, s, e, segments, strokes)
+    range_from(big, a, z, s, e, chart.segment_count, chart.stroke_count)
 }
 
 // The range of a big, with the number of the refusal or 0. Beside a refusal it is missing.
@@ -227,17 +219,18 @@ pub fn resolve_bigseg_range(chart: Chart, big: Triple) -> BigRange
 
 // The end point of the big with an index, whether its range is missing or not, without 21.
 fn end_point_of(chart: Chart, big: u16) -> EndPoint
+    requires { ⌜ (chart .«big_count» ≤ 256) × (chart .«segment_count» ≤ 256) × (chart .«stroke_count» ≤ 512) ⌝ }
     ensures { λ r. ⌜ r ≡ pointOf (endPoint (levelsOf chart) big) ⌝ }
 {
-    if at_most(chart.big_count, 256) <= big {
+    if chart.big_count <= big {
         return EndPoint::Nowhere;
     }
     let b = chart.bigs[big as usize];
-    if at_most(chart.segment_count, 256) <= b.last {
+    if chart.segment_count <= b.last {
         return EndPoint::Nowhere;
     }
     let z = chart.segments[b.last as usize];
-    if at_most(chart.stroke_count, 512) <= z.last {
+    if chart.stroke_count <= z.last {
         return EndPoint::Nowhere;
     }
     let e = chart.strokes[z.last as usize];

@@ -20,8 +20,8 @@ use Rattle.chart.specs.Table.{pointOf}
 use Rattle.rules.specs.Records.{Levels, levelsOf}
 use Rattle.rules.specs.Ranges.{rangeOf, lastStroke}
 use Rattle.laws.proofs.Lists.{map-append}
-use Rattle.levels.proofs.Read.{no-triple, no-stroke, reached}
-use Rattle.tables.specs.Read.{lastFrom}
+use Rattle.levels.specs.Read.{strokeIf}
+use Rattle.levels.proofs.Read.{no-triple}
 use Rattle.tables.specs.Rows.{Wide, rowsIn}
 use Rattle.tables.specs.Tables.{Big, bigOf, rangeIn, pointIn, bigIn, Bigs, Ranged, rangedIn, rangedOf, Members, pointIf, PutsBig}
 use Rattle.tables.proofs.Rows.{puts, rows-map, row-is}
@@ -49,31 +49,18 @@ module _ (row : List ℕ) (prices : List Float) where
 
 -- ---- the end point of a big, read at safe indices
 
-module _ (m n : ℕ) (b z : Triple) (e : Stroke) where
-  pub end-no-segment : m ≤ b .last → pointIf 0 e ≡ pointOf (lastFrom m n b z e)
-  unfolding lastFrom pointIf
+module _ (m n i j : ℕ) (e : Stroke) where
+  pub end-no-segment : m ≤ i → pointIf 0 e ≡ pointOf (strokeIf m n i j e)
+  unfolding strokeIf pointIf
   end-no-segment h = rw (le-ltb _ _ h)
 
-  pub end-no-stroke : b .last < m → n ≤ z .last → pointIf 0 e ≡ pointOf (lastFrom m n b z e)
-  unfolding lastFrom pointIf
+  pub end-no-stroke : i < m → n ≤ j → pointIf 0 e ≡ pointOf (strokeIf m n i j e)
+  unfolding strokeIf pointIf
   end-no-stroke h k = rw (lt-ltb _ _ h, le-ltb _ _ k)
 
-  pub end-there : b .last < m → z .last < n → pointIf 1 e ≡ pointOf (lastFrom m n b z e)
-  unfolding lastFrom pointIf
+  pub end-there : i < m → j < n → pointIf 1 e ≡ pointOf (strokeIf m n i j e)
+  unfolding strokeIf pointIf
   end-there h k = rw (lt-ltb _ _ h, lt-ltb _ _ k)
-
-module _ (c : Chart) (b : Triple) (j q : ℕ) where
-  abbrev z : Triple
-  z = getD (c .segments) j no-triple
-
-  -- it is the big's own
-  pub last-read :
-      c .«segment_count» ≤ length (c .segments) → c .«stroke_count» ≤ length (c .strokes)
-      → (b .last < c .«segment_count» → j ≡ b .last) → (z .last < c .«stroke_count» → q ≡ z .last)
-      → lastFrom (c .«segment_count») (c .«stroke_count») b z (getD (c .strokes) q no-stroke) ≡ lastStroke (levelsOf c) b
-  unfolding lastFrom lastStroke levelsOf
-  last-read ls lt wj wq =
-      reached (c .«segment_count») (c .«stroke_count») (b .last) j q (c .segments) (c .strokes) (λ (t : Triple). t .last) ls lt wj wq
 
 -- ---- what is put
 

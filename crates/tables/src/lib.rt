@@ -20,7 +20,7 @@ ghost use Rattle.chart.specs.declared.Stroke.{Stroke};
 ghost use Rattle.chart.specs.Table.{pointOf};
 ghost use Rattle.rules.specs.Records.{Levels, levelsOf};
 ghost use Rattle.rules.specs.Refusals.{badChart};
-ghost use Rattle.tables.specs.Read.{lastFrom};
+ghost use Rattle.levels.specs.Read.{strokeIf};
 ghost use Rattle.tables.specs.Rows.{Wide, Puts};
 ghost use Rattle.tables.specs.Tables.{rangeIn, pointIn, pointIf, Bigs, PutsBig, SupRow, FillsSups, zoneIn};
 
@@ -82,7 +82,7 @@ pub fn point_at(bars: &[[u16; 6]; 256], prices: &[[f64; 3]; 256], k: usize) -> E
 // Of the big b in a chart with these numbers of segments and strokes, where z is its last segment if that is there: 1 where z's last
 // stroke is there, and else 0.
 fn has_end(b: Triple, z: Triple, segments: u16, strokes: u16) -> u16
-    ensures { λ r. ⌜ ((e : Stroke) → pointIf r e ≡ pointOf (lastFrom segments strokes b z e)) ⌝ }
+    ensures { λ r. ⌜ ((e : Stroke) → pointIf r e ≡ pointOf (strokeIf segments strokes (b .last) (z .last) e)) ⌝ }
 {
     if segments <= b.last {
         return 0;

@@ -11,7 +11,7 @@ use Rattle.laws.proofs.Arrays.{length-via}
 use Rattle.laws.proofs.Tests.{pick-cond}
 use Rattle.classes.specs.Items.{itemsOf, levelOf, itemIn, readOf}
 use Rattle.classes.proofs.Items.{item-more}
-use Rattle.classes.proofs.Gather.{Left, left-first, left-all, left-missing, left-there, level-length, level-at, item-read}
+use Rattle.classes.proofs.Gather.{Gathering, gathering-first, gathering-all, gathering-missing, gathering-there, level-length, level-at, item-read}
 use borrow.Author.Needs.{needs}
 use Rattle.classes.proofs.items_of.Statement.{statement}
 use Rattle.classes.proofs.items_of.Tie as tie
@@ -19,19 +19,15 @@ use Rattle.classes.proofs.items_of.Tie as tie
 abbrev Inv-loop : tie.InvT-loop
 Inv-loop bigs chart strokes segments n below got₀ k₀ got k =
     (n ≤ 256) × (k ≤ n) × (length (got .directions) ≡ 256) × (length (got .starts) ≡ 256) × (length (got .ends) ≡ 256) × (got .lacking ≡ true)
-    × Left (itemIn bigs (levelsOf chart)) (levelOf bigs (levelsOf chart)) k (itemsOf k (got .directions) (got .starts) (got .ends))
+    × Gathering (itemIn bigs (levelsOf chart)) (levelOf bigs (levelsOf chart)) k (itemsOf k (got .directions) (got .starts) (got .ends))
 
 abbrev μ-loop : tie.MeasureT-loop
 μ-loop bigs chart strokes segments n below got₀ k₀ got k = n - k
 
-strokes-long : (c : tie.Start Inv-loop μ-loop) → c .args .t1 .«stroke_count» ≤ length (c .args .t1 .strokes)
-strokes-long c = let long : length (c .args .t1 .strokes) ≡ 512 = search (needs, length-via) in omega (arith, c .pre)
-
-segments-long : (c : tie.Start Inv-loop μ-loop) → c .args .t1 .«segment_count» ≤ length (c .args .t1 .segments)
-segments-long c = let long : length (c .args .t1 .segments) ≡ 256 = search (needs, length-via) in omega (arith, c .pre)
-
-bigs-long : (c : tie.Start Inv-loop μ-loop) → c .args .t1 .«big_count» ≤ length (c .args .t1 .bigs)
-bigs-long c = let long : length (c .args .t1 .bigs) ≡ 256 = search (needs, length-via) in omega (arith, c .pre)
+long :
+    (c : tie.Start Inv-loop μ-loop)
+    → (length (c .args .t1 .strokes) ≡ 512) × (length (c .args .t1 .segments) ≡ 256) × (length (c .args .t1 .bigs) ≡ 256)
+long c = (search (needs, length-via), search (needs, length-via), search (needs, length-via))
 
 -- ---- places of the code
 
@@ -55,7 +51,7 @@ there :
     → getElem? (levelOf (start (head c) .args .bigs) (levelsOf (start (head c) .args .t1))) (head c .loop .k) ≡ some (c .chosen .result)
 there c =
     let s = start (head c) in
-    level-at (s .args .t1) (strokes-long s) (segments-long s) (bigs-long s) (s .args .bigs) _ _
+    level-at (s .args .t1) (long s) (s .pre) (s .args .bigs) _ _
     (rw (head c .before .before .chosen-count .ensures) at (c .before .before .before .loop-test .taken)) (c .chosen .ensures)
 
 read :
@@ -67,9 +63,9 @@ read c =
     let t = at-t u in
     let s = start (head t) in
     c .item-from .ensures
-    ∙ item-read (s .args .t1) (strokes-long s) (segments-long s) (bigs-long s) (s .args .bigs) _ _ _ _ _ _ _ (s .pre .1) (s .pre .0)
-    (head t .before .chosen-count2 .ensures) (u .before .before .before .before .at-most .ensures) (u .before .before .at-most2 .ensures)
-    (u .over-strokes .ensures) (c .before .before .before .before .at-most3 .ensures) (c .before .before .at-most4 .ensures)
+    ∙ item-read (s .args .t1) (long s) (s .pre) (s .args .bigs) _ _ _ _ _ _ _
+    (head t .before .chosen-count2 .ensures) (u .before .before .before .before .within .ensures) (u .before .before .within2 .ensures)
+    (u .over-strokes .ensures) (c .before .before .before .before .within3 .ensures) (c .before .before .within4 .ensures)
 
 -- ---- needs
 
@@ -88,7 +84,7 @@ loop-holds c =
     let start = c .before .before in
     let few : cond (start .args .bigs) (start .args .t1 .«big_count») (start .args .t1 .«segment_count») ≤ 256 =
     pick-cond (λ (n : ℕ). n ≤ 256) (start .args .bigs) _ _ (λ e. start .pre .2) (λ e. start .pre .1) in
-    (omega (arith, c .before .chosen-count .ensures), omega arith, refl, refl, refl, refl, left-first _ _)
+    (omega (arith, c .before .chosen-count .ensures), omega arith, refl, refl, refl, refl, gathering-first _ _)
 
 mul-big : tie.Need-mul-big Inv-loop μ-loop
 mul-big c = search needs
@@ -105,11 +101,8 @@ element-copy-out-segment c = search needs
 chosen-requires : tie.Need-chosen-requires Inv-loop μ-loop
 chosen-requires c κs = search needs
 
-at-most-requires : tie.Need-at-most-requires Inv-loop μ-loop
-at-most-requires c κs = search needs
-
-cast-a : tie.Need-cast-a Inv-loop μ-loop
-cast-a c = search needs
+within-requires : tie.Need-within-requires Inv-loop μ-loop
+within-requires c κs = search needs
 
 mul-a : tie.Need-mul-a Inv-loop μ-loop
 mul-a c = search needs
@@ -117,11 +110,8 @@ mul-a c = search needs
 element-copy-out-a : tie.Need-element-copy-out-a Inv-loop μ-loop
 element-copy-out-a c = search needs
 
-at-most-requires-2 : tie.Need-at-most-requires-2 Inv-loop μ-loop
-at-most-requires-2 c κs = search needs
-
-cast-z : tie.Need-cast-z Inv-loop μ-loop
-cast-z c = search needs
+within-requires-2 : tie.Need-within-requires-2 Inv-loop μ-loop
+within-requires-2 c κs = search needs
 
 mul-z : tie.Need-mul-z Inv-loop μ-loop
 mul-z c = search needs
@@ -132,11 +122,8 @@ element-copy-out-z c = search needs
 over-strokes-requires : tie.Need-over-strokes-requires Inv-loop μ-loop
 over-strokes-requires c κs = search needs
 
-at-most-requires-3 : tie.Need-at-most-requires-3 Inv-loop μ-loop
-at-most-requires-3 c κs = search needs
-
-cast-s : tie.Need-cast-s Inv-loop μ-loop
-cast-s c = search needs
+within-requires-3 : tie.Need-within-requires-3 Inv-loop μ-loop
+within-requires-3 c κs = search needs
 
 mul-s : tie.Need-mul-s Inv-loop μ-loop
 mul-s c = search needs
@@ -144,11 +131,8 @@ mul-s c = search needs
 element-copy-out-s : tie.Need-element-copy-out-s Inv-loop μ-loop
 element-copy-out-s c = search needs
 
-at-most-requires-4 : tie.Need-at-most-requires-4 Inv-loop μ-loop
-at-most-requires-4 c κs = search needs
-
-cast-e : tie.Need-cast-e Inv-loop μ-loop
-cast-e c = search needs
+within-requires-4 : tie.Need-within-requires-4 Inv-loop μ-loop
+within-requires-4 c κs = search needs
 
 mul-e : tie.Need-mul-e Inv-loop μ-loop
 mul-e c = search needs
@@ -170,7 +154,7 @@ returns c =
     let t = at-t (at-u (c .before .before)) in
     let inv = head t .loop .inv in
     rw (inv .5)
-    (left-missing _ _ _ _ (inv .6) _ (there t) _ (sym (read (c .before .before)) ∙ ap readOf (c .enum-told .given .1)))
+    (gathering-missing _ _ _ _ (inv .6) _ (there t) _ (sym (read (c .before .before)) ∙ ap readOf (c .enum-told .given .1)))
 
 element-write-got : tie.Need-element-write-got Inv-loop μ-loop
 element-write-got c = search needs
@@ -207,17 +191,17 @@ loop-again c =
       simp length-set (inv .4),
       inv .5,
       rw (item-more (got .directions) (got .starts) (got .ends) (head t .loop .k) _ _ _ (omega (arith, inv .2, turn)) (omega (arith, inv .3, turn)) (omega (arith, inv .4, turn)))
-          (left-there _ _ _ _ (inv .6) _ (there t) _ (sym (read at-read) ∙ ap readOf (c .before .read .given .1))),
+          (gathering-there _ _ _ _ (inv .6) _ (there t) _ (sym (read at-read) ∙ ap readOf (c .before .read .given .1))),
     )
 
 returns-2 : tie.Need-returns-2 Inv-loop μ-loop
 returns-2 c =
     let top = c .before in
     let s = start top in
-    let size = level-length (s .args .t1) (strokes-long s) (segments-long s) (bigs-long s) (s .args .bigs) in
+    let size = level-length (s .args .t1) (long s) (s .pre) (s .args .bigs) in
     let n = top .before .before .chosen-count .ensures in
     let all : top .loop .k ≡ cond (s .args .bigs) (s .args .t1 .«big_count») (s .args .t1 .«segment_count») = omega (arith, n, top .loop .inv .1, c .loop-test .left) in
-    rw all at (left-all _ _ _ _ (top .loop .inv .6) (omega (arith, size, all)))
+    rw all at (gathering-all _ _ _ _ (top .loop .inv .6) (omega (arith, size, all)))
 
 pub items-of-spec : {M : Type 1} → statement M
 items-of-spec =
@@ -234,21 +218,17 @@ items-of-spec =
     mul-segment
     element-copy-out-segment
     chosen-requires
-    at-most-requires
-    cast-a
+    within-requires
     mul-a
     element-copy-out-a
-    at-most-requires-2
-    cast-z
+    within-requires-2
     mul-z
     element-copy-out-z
     over-strokes-requires
-    at-most-requires-3
-    cast-s
+    within-requires-3
     mul-s
     element-copy-out-s
-    at-most-requires-4
-    cast-e
+    within-requires-4
     mul-e
     element-copy-out-e
     item-from-requires

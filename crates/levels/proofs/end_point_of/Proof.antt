@@ -1,9 +1,11 @@
 -- `levels::end_point_of` meets its contract. Assumes nothing.
 use Rattle.rules.specs.Records.{levelsOf}
-use Rattle.levels.proofs.Read.{no-triple, no-stroke, inside, past, end-no-big, end-no-segment, end-no-stroke, end-found}
-use lib.ListN.{length}
+use Rattle.levels.proofs.Read.{no-triple, no-stroke, end-no-big, end-no-segment, end-no-stroke, end-found}
+use native.Mathlib.Omega.{arith}
+use lib.ListN.{length, getD, getElem?}
 use mathlib.Core.Path.{_≡_}
-use Rattle.laws.proofs.Arrays.{length-via}
+use mathlib.Core.Option.{some}
+use Rattle.laws.proofs.Arrays.{at-in, at-out, length-via}
 use borrow.Author.Needs.{needs}
 use Rattle.levels.proofs.end_point_of.Statement.{statement}
 use Rattle.levels.proofs.end_point_of.Tie as tie
@@ -17,12 +19,24 @@ segments-long c = search (needs, length-via)
 bigs-long : (c : tie.Start) → length (c .args .t1 .bigs) ≡ 256
 bigs-long c = search (needs, length-via)
 
-at-most-requires : tie.Need-at-most-requires
-at-most-requires c κs = search needs
+-- the big and its last segment, where the tests have passed
+big-there : (c : tie.Else1) → let a = c .before .args in getElem? (levelsOf (a .t1) .bigs) (a .big) ≡ some (getD (a .t1 .bigs) (a .big) no-triple)
+unfolding levelsOf
+big-there c = at-in _ _ _ no-triple (c .if1 .left) (omega (arith, bigs-long (c .before), c .before .pre .0))
+
+segment-there :
+    (c : tie.Else2)
+    → let a = c .before .before .before .before .args in
+    let b = getD (a .t1 .bigs) (a .big) no-triple in
+    getElem? (levelsOf (a .t1) .segments) (b .last) ≡ some (getD (a .t1 .segments) (b .last) no-triple)
+unfolding levelsOf
+segment-there c =
+    let start = c .before .before .before .before in
+    at-in _ _ _ no-triple (c .if2 .left) (omega (arith, segments-long start, start .pre .1, c .if2 .left))
 
 returns : tie.Need-returns
 unfolding levelsOf
-returns c = end-no-big _ _ (past _ 256 _ _ _ (bigs-long (c .before .before)) (c .before .at-most .ensures) (c .if1 .taken))
+returns c = end-no-big _ _ (at-out _ _ _ (c .if1 .taken))
 
 mul-b : tie.Need-mul-b
 mul-b c = search needs
@@ -30,16 +44,9 @@ mul-b c = search needs
 element-copy-out-b : tie.Need-element-copy-out-b
 element-copy-out-b c = search needs
 
-at-most-requires-2 : tie.Need-at-most-requires-2
-at-most-requires-2 c κs = search needs
-
 returns-2 : tie.Need-returns-2
 unfolding levelsOf
-returns-2 c =
-    let at1 = c .before .before .before .before in
-    let start = at1 .before .before in
-    end-no-segment _ _ _ (inside _ 256 _ _ _ (bigs-long start) (at1 .before .at-most .ensures) no-triple (at1 .if1 .left))
-    (past _ 256 _ _ _ (segments-long start) (c .before .before .at-most2 .ensures) (c .if2 .taken))
+returns-2 c = end-no-segment _ _ _ (big-there (c .before .before .before)) (at-out _ _ _ (c .if2 .taken))
 
 cast-z : tie.Need-cast-z
 cast-z c = search needs
@@ -50,18 +57,11 @@ mul-z c = search needs
 element-copy-out-z : tie.Need-element-copy-out-z
 element-copy-out-z c = search needs
 
-at-most-requires-3 : tie.Need-at-most-requires-3
-at-most-requires-3 c κs = search needs
-
 returns-3 : tie.Need-returns-3
 unfolding levelsOf
 returns-3 c =
-    let at2 = c .before .before .before .before .before in
-    let at1 = at2 .before .before .before .before in
-    let start = at1 .before .before in
-    end-no-stroke _ _ _ _ (inside _ 256 _ _ _ (bigs-long start) (at1 .before .at-most .ensures) no-triple (at1 .if1 .left))
-    (inside _ 256 _ _ _ (segments-long start) (at2 .before .before .at-most2 .ensures) no-triple (at2 .if2 .left))
-    (past _ 512 _ _ _ (strokes-long start) (c .before .before .at-most3 .ensures) (c .if3 .taken))
+    let at2 = c .before .before .before .before in
+    end-no-stroke _ _ _ _ (big-there (at2 .before .before .before)) (segment-there at2) (at-out _ _ _ (c .if3 .taken))
 
 cast-e : tie.Need-cast-e
 cast-e c = search needs
@@ -76,27 +76,22 @@ returns-4 : tie.Need-returns-4
 unfolding levelsOf
 returns-4 c =
     let at3 = c .before .before in
-    let at2 = at3 .before .before .before .before .before in
-    let at1 = at2 .before .before .before .before in
-    let start = at1 .before .before in
-    end-found _ _ _ _ _ (inside _ 256 _ _ _ (bigs-long start) (at1 .before .at-most .ensures) no-triple (at1 .if1 .left))
-    (inside _ 256 _ _ _ (segments-long start) (at2 .before .before .at-most2 .ensures) no-triple (at2 .if2 .left))
-    (inside _ 512 _ _ _ (strokes-long start) (at3 .before .before .at-most3 .ensures) no-stroke (at3 .if3 .left))
+    let at2 = at3 .before .before .before .before in
+    let at1 = at2 .before .before .before in
+    end-found _ _ _ _ _ (big-there at1) (segment-there at2)
+    (at-in _ _ _ no-stroke (at3 .if3 .left) (omega (arith, strokes-long (at1 .before), at1 .before .pre .2, at3 .if3 .left)))
 
 pub end-point-of-spec : {M : Type 1} → statement M
 end-point-of-spec =
     tie.close
     (tie.spec
-    at-most-requires
     returns
     mul-b
     element-copy-out-b
-    at-most-requires-2
     returns-2
     cast-z
     mul-z
     element-copy-out-z
-    at-most-requires-3
     returns-3
     cast-e
     mul-e

@@ -13,12 +13,6 @@ segments-long c = search (needs, length-via)
 strokes-long : (c : tie.Start) → length (c .args .t1 .strokes) ≡ 512
 strokes-long c = search (needs, length-via)
 
-at-most-requires : tie.Need-at-most-requires
-at-most-requires c κs = search needs
-
-at-most-requires-2 : tie.Need-at-most-requires-2
-at-most-requires-2 c κs = search needs
-
 within-requires : tie.Need-within-requires
 within-requires c κs = search needs
 
@@ -65,19 +59,16 @@ returns c =
     let w3 = w4 .before in
     let w2 = w3 .before .before .before in
     let w1 = w2 .before in
-    let m2 = w1 .before in
-    let m1 = m2 .before in
+    let start = w1 .before in
     c .range-from .ensures
-    ∙ range-read (m1 .before .args .t1) _ _ (m1 .before .args .big) (w1 .within .result) (w2 .within2 .result) (w3 .within3 .result) (w4 .within4 .result)
-    (segments-long (m1 .before)) (strokes-long (m1 .before)) (m1 .at-most .ensures) (m2 .at-most2 .ensures)
+    ∙ range-read (start .args .t1) (start .args .big) (w1 .within .result) (w2 .within2 .result) (w3 .within3 .result) (w4 .within4 .result)
+    (segments-long start) (strokes-long start) (start .pre .0) (start .pre .1)
     (w1 .within .ensures) (w2 .within2 .ensures) (w3 .within3 .ensures) (w4 .within4 .ensures)
 
 pub range-of-spec : {M : Type 1} → statement M
 range-of-spec =
     tie.close
     (tie.spec
-    at-most-requires
-    at-most-requires-2
     within-requires
     within-requires-2
     mul-a

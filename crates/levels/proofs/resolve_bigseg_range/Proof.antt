@@ -3,7 +3,7 @@ use mathlib.Core.Path.{ap, sym, _∙_}
 use borrow.Author.Needs.{needs}
 use Rattle.rules.specs.Answer.{rangeAnswer, given}
 use Rattle.rules.specs.Calls.{rangeCall}
-use Rattle.laws.proofs.Answers.{on-bad, on-good}
+use Rattle.laws.proofs.Answers.{counted, on-bad, on-good}
 use Rattle.levels.proofs.resolve_bigseg_range.Statement.{statement}
 use Rattle.levels.proofs.resolve_bigseg_range.Tie as tie
 
@@ -15,7 +15,7 @@ unfolding rangeAnswer rangeCall
 returns c = sym (on-bad _ _ (sym (c .before .bad-chart .ensures) ∙ c .if1 .taken))
 
 range-of-requires : tie.Need-range-of-requires
-range-of-requires c κs = search needs
+range-of-requires c κs = let n = counted _ (sym (c .before .bad-chart .ensures) ∙ c .if1 .left) in (n .segments, n .strokes)
 
 returns-2 : tie.Need-returns-2
 unfolding rangeAnswer rangeCall
