@@ -76,24 +76,7 @@ held {A = A} n i p xs d long same = pick-cond (λ (o : Option A). o ≡ getElem?
     there : ltb i n ≡ true → some (getD xs p d) ≡ getElem? (take n xs) i
     there w = let below = ltb-true i n w in rw (same below) (sym (at-in n i xs d below (omega arith)))
 
--- the stroke that a segment names, the segment at i being read at k, and the stroke at p
-pub held-through :
-    (m n i k p : ℕ) (xs : List Triple) (ys : List Stroke) (f : Triple → ℕ) → m ≤ length xs → n ≤ length ys
-    → (i < m → k ≡ i) → (f (getD xs k no-triple) < n → p ≡ f (getD xs k no-triple))
-    → strokeIf m n i (f (getD xs k no-triple)) (getD ys p no-stroke) ≡ andThen (getElem? (take m xs) i) (λ (t : Triple). getElem? (take n ys) (f t))
-unfolding strokeIf
-held-through m n i k p xs ys f lx ly same at-p = by (ltb i m) refl
-  where
-    by :
-        (u : Bool) → ltb i m ≡ u
-        → heldIf (u && ltb (f (getD xs k no-triple)) n) (getD ys p no-stroke) ≡ andThen (getElem? (take m xs) i) (λ (t : Triple). getElem? (take n ys) (f t))
-    by false u = rw (at-out m i xs (ltb-false i m u))
-    by true u =
-        let below = ltb-true i m u in
-        let here : i ≡ k = sym (same below) in
-        rw (here, at-in m k xs no-triple (omega arith) (omega arith)) (held n (f (getD xs k no-triple)) p ys no-stroke ly at-p)
-
--- the strokes of a big, and so its range
+-- the stroke that a segment of a big names, that segment being read at k and the stroke at p
 module _
     (c : Chart) (segments : length (c .segments) ≡ 256) (strokes : length (c .strokes) ≡ 512) (few : c .«segment_count» ≤ 256)
     (low : c .«stroke_count» ≤ 512) (b : Triple) (f : Triple → ℕ) (k p : ℕ)
@@ -105,10 +88,21 @@ module _
         SafeIndex (f b) 256 k → SafeIndex (f segment) 512 p
         → strokeIf (c .«segment_count») (c .«stroke_count») (f b) (f segment) (getD (c .strokes) p no-stroke)
         ≡ andThen (getElem? (levelsOf c .segments) (f b)) (λ (t : Triple). getElem? (levelsOf c .strokes) (f t))
-    unfolding levelsOf
-    stroke-read wk wp =
-        held-through _ _ (f b) k p (c .segments) (c .strokes) f (omega arith) (omega arith) (λ h. wk .same (omega arith)) (λ h. wp .same (omega arith))
+    unfolding strokeIf levelsOf
+    stroke-read wk wp = by (ltb (f b) (c .«segment_count»)) refl
+      where
+        by :
+            (u : Bool) → ltb (f b) (c .«segment_count») ≡ u
+            → heldIf (u && ltb (f segment) (c .«stroke_count»)) (getD (c .strokes) p no-stroke)
+            ≡ andThen (getElem? (levelsOf c .segments) (f b)) (λ (t : Triple). getElem? (levelsOf c .strokes) (f t))
+        by false u = rw (at-out (c .«segment_count») (f b) (c .segments) (ltb-false _ _ u))
+        by true u =
+            let below = ltb-true (f b) (c .«segment_count») u in
+            let here : f b ≡ k = sym (wk .same (omega arith)) in
+            rw (here, at-in (c .«segment_count») k (c .segments) no-triple (omega arith) (omega arith))
+            (held _ (f segment) p (c .strokes) no-stroke (omega arith) (λ h. wp .same (omega arith)))
 
+-- and the range of the big
 module _ (c : Chart) (b : Triple) (i j p q : ℕ) where
   abbrev a : Triple
   a = getD (c .segments) i no-triple
