@@ -83,23 +83,25 @@ insert-there (x ∷ xs) b h f = go (leb b x) refl h f (insert-there xs b)
         let below = leb-false b x e in
         rw (le-ltb b x (omega arith), ne-eqb b x (λ w. omega arith)) (ap (λ (l : List ℕ). x ∷ l) (r (omega arith) k))
 
--- ---- those from a place on go one further: `held` is the one that goes to place i
+-- ---- rows from a place on go one further: `held` is the one that goes to place i
 
-module _ (bars : List ℕ) (n i held : ℕ) (all : List ℕ) (long : n < length bars) (left : take i bars ++ held ∷ drop i (take n bars) ≡ all) where
-  pub put-next : i < n → take (i + 1) (set bars i held) ++ getD bars i 0 ∷ drop (i + 1) (take n (set bars i held)) ≡ all
-  put-next h =
-      rw (
-        one-more bars i held (omega arith),
-        take-set-lt n bars i held h,
-        drop-set-lt (i + 1) (take n bars) i held (omega arith),
-        append-assoc,
-      )
-      (rw (left-more n i bars 0 h (omega arith)) at left)
+module _
+    {A : Type 0} (rows : List A) (n i : ℕ) (held : A) (all : List A) (long : n < length rows) (left : take i rows ++ held ∷ drop i (take n rows) ≡ all)
+  where
+    pub put-next : (d : A) → i < n → take (i + 1) (set rows i held) ++ getD rows i d ∷ drop (i + 1) (take n (set rows i held)) ≡ all
+    put-next d h =
+        rw (
+          one-more rows i held (omega arith),
+          take-set-lt n rows i held h,
+          drop-set-lt (i + 1) (take n rows) i held (omega arith),
+          append-assoc,
+        )
+        (rw (left-more n i rows d h (omega arith)) at left)
 
-  pub put-last : n ≤ i → i ≤ n → take (n + 1) (set bars n held) ≡ all
-  put-last h k =
-      let same : i ≡ n = omega arith in
-      rw (one-more bars n held long) (rw (left-none n i bars h (omega arith), same) at left)
+    pub put-last : n ≤ i → i ≤ n → take (n + 1) (set rows n held) ≡ all
+    put-last h k =
+        let same : i ≡ n = omega arith in
+        rw (one-more rows n held long) (rw (left-none n i rows h (omega arith), same) at left)
 
 -- ---- the insertion in place: at is the place of the first of n that is not below the bar
 

@@ -198,7 +198,7 @@ pub fn insert_bar(bars: &mut [u32], n: usize, from: usize, bar: u32) -> Inserted
 
 // What the numbering of a superior's bars has come to: the order of the next mark, 0 as long as no order-0 mark was met, and how many rows
 // there are.
-struct Step {
+struct Numbered {
     next: u32,
     count: usize,
 }
@@ -212,7 +212,7 @@ fn number_bar(
     keys: &mut [u32],
     orders: &mut [u32],
     n: usize,
-) -> Step
+) -> Numbered
     requires { ⌜ (bar < 0x1_0000) × (next < 0x1_0000) × (zeros ≤ n) × (n ≤ 512) × (513 ≤ length (now keys)) × (513 ≤ length (now orders)) ⌝ }
     ensures { λ r. ⌜ NumbersBar bar buy zeros next n (now (keys .entry)) (now (orders .entry)) (r .next) (r .count) (now (keys .exit)) (now (orders .exit)) ⌝ }
 {
@@ -220,15 +220,15 @@ fn number_bar(
     let later = next + 1;
     if place_of(keys, zeros, key) < zeros {
         if next == 0 {
-            return Step { next: 1, count: n };
+            return Numbered { next: 1, count: n };
         }
-        return Step { next, count: n };
+        return Numbered { next, count: n };
     }
     if next == 0 {
-        return Step { next: 0, count: n };
+        return Numbered { next: 0, count: n };
     }
     let count = push_3n(keys, orders, n, key, next);
-    Step { next: later, count }
+    Numbered { next: later, count }
 }
 
 // The numbered marks of one superior, by its k scanned bars, which are sorted: those behind the first that has an order-0 mark of the side
@@ -253,9 +253,9 @@ pub fn number_bars(
     let mut count = n;
     let mut i = 0usize;
     while i < k {
-        let step = number_bar(bars[i], buy, zeros, next, keys, orders, count);
-        next = step.next;
-        count = step.count;
+        let numbered = number_bar(bars[i], buy, zeros, next, keys, orders, count);
+        next = numbered.next;
+        count = numbered.count;
         i += 1;
     }
     count

@@ -43,7 +43,7 @@ loop-again c =
     let inv = head .loop .inv in (
       omega arith,
       simp length-set (inv .1),
-      put-next _ _ (head .loop .i) _ _ (omega (arith, inv, head .before .pre)) (inv .2) (c .before .loop-test .taken),
+      put-next _ _ (head .loop .i) _ _ (omega (arith, inv, head .before .pre)) (inv .2) 0 (c .before .loop-test .taken),
     )
 
 mul-bars-2 : tie.Need-mul-bars-2 Inv-loop μ-loop
