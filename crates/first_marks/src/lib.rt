@@ -5,13 +5,14 @@ use chart::FirstMark;
 ghost use Prim.Native.Nat.{_+_, _<_, _≤_};
 ghost use mathlib.Core.Path.{_≡_};
 ghost use mathlib.Core.Bool.{true, false, Bool·beq};
-ghost use mathlib.Core.List.{[], _∷_, _++_, foldl};
-ghost use lib.ListN.{take, drop};
+ghost use mathlib.Core.List.{[], foldl};
+ghost use lib.ListN.{take};
 ghost use Rattle.rules.specs.Answer.{rowsAnswer, given};
 ghost use Rattle.rules.specs.Records.{isUp, levelsOf};
 ghost use Rattle.rules.specs.FirstMarks.{fitting, firstsOf, insertFirst};
 ghost use Rattle.rules.specs.Calls.{firstMarksCall};
-ghost use Rattle.first_marks.specs.Placed.{Stands};
+ghost use Rattle.laws.specs.Lists.{Rising};
+ghost use Rattle.first_marks.specs.Placed.{Stands, barsOf};
 
 // The answer of a first-mark call: a number, and where it is 0 the first `count` rows.
 pub struct FirstRows {
@@ -69,44 +70,32 @@ struct Rows {
     rows: [FirstMark; 256],
 }
 
-// The rows with a mark at place `at`, those from there on one place further.
-fn shifted(rows: [FirstMark; 256], count: u16, at: u16, mark: FirstMark) -> Rows
-    requires { ⌜ (at ≤ count) × (count < 256) ⌝ }
-    ensures { λ r. ⌜ (r .count ≡ count + 1) × (take (r .count) (r .rows) ≡ take at rows ++ mark ∷ drop at (take count rows)) ⌝ }
+// The rows with a mark in its place by bar, those from there on one place further: their bars rise. The first mark of a bar is kept.
+fn inserted(rows: [FirstMark; 256], count: u16, mark: FirstMark) -> Rows
+    requires { ⌜ (count < 256) × Rising (barsOf (take count rows)) ⌝ }
+    ensures { λ r. ⌜ (r .count ≤ count + 1) × (take (r .count) (r .rows) ≡ insertFirst (take count rows) mark) ⌝ }
 {
     let mut next = rows;
     let mut held = mark;
-    let mut k = at;
+    let mut k = 0u16;
     while k < count {
         let row = next[k as usize];
+        if held.bar_index == row.bar_index {
+            return Rows { count, rows: next };
+        }
+        if row.bar_index < held.bar_index {
+            k += 1;
+            continue;
+        }
         next[k as usize] = held;
         held = row;
         k += 1;
     }
-    next[k as usize] = held;
+    next[count as usize] = held;
     Rows {
         count: count + 1,
         rows: next,
     }
-}
-
-// The rows with a mark in its place by bar. The first mark of a bar is kept.
-fn inserted(rows: [FirstMark; 256], count: u16, mark: FirstMark) -> Rows
-    requires { ⌜ count < 256 ⌝ }
-    ensures { λ r. ⌜ (r .count ≤ count + 1) × (take (r .count) (r .rows) ≡ insertFirst (take count rows) mark) ⌝ }
-{
-    let mut at = 0u16;
-    while at < count {
-        let row = rows[at as usize];
-        if mark.bar_index < row.bar_index {
-            return shifted(rows, count, at, mark);
-        }
-        if mark.bar_index == row.bar_index {
-            return Rows { count, rows };
-        }
-        at += 1;
-    }
-    shifted(rows, count, at, mark)
 }
 
 // ---- the calls

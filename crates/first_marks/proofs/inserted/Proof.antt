@@ -1,27 +1,22 @@
--- `first_marks::inserted` meets its contract. The invariant: the mark belongs behind the rows that are passed. Assumes nothing.
-use Prim.Native.Nat.{_≤_, _-_}
+-- `first_marks::inserted` meets its contract. The invariant: the mark that is held belongs among the rows that are left. Assumes nothing.
+use Prim.Native.Nat.{_-_}
 use native.Mathlib.Omega.{arith}
-use mathlib.Core.Path.{_≡_, refl, _∙_}
-use mathlib.Core.List.{_++_}
-use lib.ListN.{length, take, drop}
+use mathlib.Core.Path.{refl}
+use lib.ListN.{take}
 use Rattle.rules.specs.FirstMarks.{insertFirst}
-use Rattle.first_marks.proofs.Insertion.{insert-end, insert-before, insert-kept, insert-next}
+use Rattle.first_marks.proofs.Insertion.{Inserting, inserting-last, inserting-kept, inserting-later, inserting-here}
 use borrow.Author.Needs.{needs}
 use Rattle.first_marks.proofs.inserted.Statement.{statement}
 use Rattle.first_marks.proofs.inserted.Tie as tie
 
 abbrev Inv-loop : tie.InvT-loop
-Inv-loop count mark rows at₀ at =
-    (at ≤ count) × (take at rows ++ insertFirst (drop at (take count rows)) mark ≡ insertFirst (take count rows) mark)
+Inv-loop count next₀ held₀ k₀ next held k = Inserting count (insertFirst (take count next₀) held₀) k next held
 
 abbrev μ-loop : tie.MeasureT-loop
-μ-loop count mark rows at₀ at = count - at
-
-long : (c : tie.Start Inv-loop μ-loop) → c .args .count ≤ length (c .args .t1)
-long c = omega arith
+μ-loop count next₀ held₀ k₀ next held k = count - k
 
 loop-holds : tie.Need-loop-holds Inv-loop μ-loop
-loop-holds c = (omega arith, refl)
+loop-holds c = record { long = omega arith; within = omega arith; left = refl; rises = c .pre .1 }
 
 cast-row : tie.Need-cast-row Inv-loop μ-loop
 cast-row c = search needs
@@ -32,53 +27,60 @@ mul-row c = search needs
 array-copy-out-row : tie.Need-array-copy-out-row Inv-loop μ-loop
 array-copy-out-row c = search needs
 
-shifted-requires : tie.Need-shifted-requires Inv-loop μ-loop
-shifted-requires c κs = search needs
-
 returns : tie.Need-returns Inv-loop μ-loop
 returns c =
-    let at-if = c .before in
-    let in-loop = at-if .before .before .before .before in
-    let head = in-loop .before in (
-      omega (arith, c .shifted .ensures .0),
-      c .shifted .ensures .1
-          ∙ insert-before _ (head .loop .at) _ _ _ (long (head .before)) (head .loop .inv .1) (in-loop .loop-test .taken) (at-if .if1 .taken),
-    )
+    let in-loop = c .before .before .before .before in
+    let head = in-loop .before in
+    (omega arith, inserting-kept _ (head .loop .k) _ _ _ (head .before .pre .0) (head .loop .inv) (in-loop .loop-test .taken) (c .if1 .taken))
 
-returns-2 : tie.Need-returns-2 Inv-loop μ-loop
-returns-2 c =
-    let at1 = c .before .before .before in
-    let in-loop = at1 .before .before .before .before in
-    let head = in-loop .before in (
-      omega arith,
-      insert-kept _ (head .loop .at) _ _ _ (long (head .before)) (head .loop .inv .1) (in-loop .loop-test .taken) (at1 .if1 .left) (c .if2 .taken),
-    )
-
-add-at : tie.Need-add-at Inv-loop μ-loop
-add-at c = search needs
+add-k : tie.Need-add-k Inv-loop μ-loop
+add-k c = search needs
 
 loop-less : tie.Need-loop-less Inv-loop μ-loop
 loop-less c = search needs
 
 loop-again : tie.Need-loop-again Inv-loop μ-loop
 loop-again c =
+    let in-loop = c .before .before .before .before .before .before .before in
+    let head = in-loop .before in
+    inserting-later _ (head .loop .k) _ _ _ (head .before .pre .0) (head .loop .inv) (in-loop .loop-test .taken) (c .if2 .taken)
+
+cast-next : tie.Need-cast-next Inv-loop μ-loop
+cast-next c = search needs
+
+mul-next : tie.Need-mul-next Inv-loop μ-loop
+mul-next c = search needs
+
+array-set-from-next : tie.Need-array-set-from-next Inv-loop μ-loop
+array-set-from-next c = search needs
+
+add-k-2 : tie.Need-add-k-2 Inv-loop μ-loop
+add-k-2 c = search needs
+
+loop-less-2 : tie.Need-loop-less-2 Inv-loop μ-loop
+loop-less-2 c = search needs
+
+loop-again-2 : tie.Need-loop-again-2 Inv-loop μ-loop
+loop-again-2 c =
     let at1 = c .before .before .before in
     let in-loop = at1 .before .before .before .before in
-    let head = in-loop .before in (
-      omega arith,
-      insert-next _ (head .loop .at) _ _ _ (long (head .before)) (head .loop .inv .1) (in-loop .loop-test .taken) (at1 .if1 .left) (c .if2 .left),
-    )
+    let head = in-loop .before in
+    inserting-here _ (head .loop .k) _ _ _ (head .before .pre .0) (head .loop .inv) (in-loop .loop-test .taken)
+    (omega (arith, at1 .if1 .left, c .if2 .left))
 
-shifted-requires-2 : tie.Need-shifted-requires-2 Inv-loop μ-loop
-shifted-requires-2 c κs = search needs
+mul-next-2 : tie.Need-mul-next-2 Inv-loop μ-loop
+mul-next-2 c = search needs
 
-returns-3 : tie.Need-returns-3 Inv-loop μ-loop
-returns-3 c =
-    let head = c .before .before in (
-      omega (arith, c .shifted2 .ensures .0),
-      c .shifted2 .ensures .1
-          ∙ insert-end _ (head .loop .at) _ _ _ (long (head .before)) (head .loop .inv .1) (omega (arith, head .loop .inv .0, c .before .loop-test .left)),
-    )
+array-set-from-next-2 : tie.Need-array-set-from-next-2 Inv-loop μ-loop
+array-set-from-next-2 c = search needs
+
+add-t21 : tie.Need-add-t21 Inv-loop μ-loop
+add-t21 c = search needs
+
+returns-2 : tie.Need-returns-2 Inv-loop μ-loop
+returns-2 c =
+    let head = c .before in
+    (omega arith, inserting-last _ (head .loop .k) _ _ _ (head .before .pre .0) (head .loop .inv) (c .loop-test .left))
 
 pub inserted-spec : {M : Type 1} → statement M
 inserted-spec =
@@ -90,11 +92,17 @@ inserted-spec =
     cast-row
     mul-row
     array-copy-out-row
-    shifted-requires
     returns
-    returns-2
-    add-at
+    add-k
     loop-less
     loop-again
-    shifted-requires-2
-    returns-3)
+    cast-next
+    mul-next
+    array-set-from-next
+    add-k-2
+    loop-less-2
+    loop-again-2
+    mul-next-2
+    array-set-from-next-2
+    add-t21
+    returns-2)

@@ -11,9 +11,12 @@ use Rattle.rules.specs.Records.{levelsOf}
 use Rattle.rules.specs.Answer.{given}
 use Rattle.rules.specs.FirstMarks.{fitting, firstsOf, insertFirst}
 use Rattle.laws.proofs.Answers.{given-rows}
+use Rattle.laws.specs.Lists.{Rising}
+use Rattle.laws.proofs.Lists.{none-left}
 use Rattle.laws.proofs.Arrays.{length-via}
 use Rattle.classes.proofs.Extended.{no-class}
-use Rattle.first_marks.specs.Placed.{Placed}
+use Rattle.first_marks.specs.Placed.{Placed, barsOf}
+use Rattle.first_marks.proofs.Insertion.{insert-rises}
 use Rattle.first_marks.proofs.Neighbours.{Reads, reads-first, reads-last, stands-at, first-unfit, first-short, first-beyond, marks-none, marks-some, marks-all}
 use borrow.Author.Tests.{not-true, not-false}
 use borrow.Author.Needs.{needs}
@@ -22,7 +25,7 @@ use Rattle.first_marks.proofs.marks_of.Tie as tie
 
 abbrev Inv-loop : tie.InvT-loop
 Inv-loop n buy chart classes rows₀ count₀ i₀ rows count i =
-    (i ≤ n) × (count ≤ i) × (length rows ≡ 256)
+    (i ≤ n) × (count ≤ i) × (length rows ≡ 256) × Rising (barsOf (take count rows))
     × (foldl insertFirst (take count rows) (firstsOf (levelsOf chart) buy (drop i (take n classes)))
     ≡ foldl insertFirst [] (firstsOf (levelsOf chart) buy (take n classes)))
 
@@ -94,7 +97,7 @@ rows-long : (c : tie.After-inserted Inv-loop μ-loop) → length (c .inserted .r
 rows-long c = search (needs, length-via, c .inserted .ok)
 
 loop-holds : tie.Need-loop-holds Inv-loop μ-loop
-loop-holds c = (omega arith, omega arith, refl, refl)
+loop-holds c = (omega arith, omega arith, refl, none-left, refl)
 
 add-loop : tie.Need-add-loop Inv-loop μ-loop
 add-loop c = search needs
@@ -136,7 +139,8 @@ loop-again c =
       omega arith,
       omega (arith, inv .1),
       inv .2,
-      marks-none _ _ _ (i at) _ _ _ (long (start at)) (inv .3) (at .loop-test .taken)
+      inv .3,
+      marks-none _ _ _ (i at) _ _ _ (long (start at)) (inv .4) (at .loop-test .taken)
           (first-unfit _ _ _ _ (placed at) (placed-next at) (sym (c .before .fitting .ensures) ∙ not-true _ (c .if1 .taken))),
     )
 
@@ -211,13 +215,17 @@ loop-again-2 c =
       omega (arith, at .loop-test .taken),
       omega (arith, inv .1),
       inv .2,
-      marks-none _ _ _ (i at) _ _ _ (long (start at)) (inv .3) (at .loop-test .taken)
+      inv .3,
+      marks-none _ _ _ (i at) _ _ _ (long (start at)) (inv .4) (at .loop-test .taken)
           (first-short _ _ _ _ (placed at) (placed-next at) _ _ (begins at .same) (ends at .same) (fits fitted)
           (sym (c .before .beyond .ensures) ∙ not-true _ (c .if2 .taken))),
     )
 
 inserted-requires : tie.Need-inserted-requires Inv-loop μ-loop
-inserted-requires c κs = search needs
+inserted-requires c κs =
+    let at = turn (compared (c .before)) in
+    let inv = at .before .loop .inv in
+    (omega (arith, inv .1, at .loop-test .taken, start at .pre .0), inv .3)
 
 add-i-3 : tie.Need-add-i-3 Inv-loop μ-loop
 add-i-3 c = search needs
@@ -235,8 +243,9 @@ loop-again-3 c =
       omega (arith, at .loop-test .taken),
       omega (arith, put .0, inv .1),
       rows-long (c .before),
+      rw (put .1) (insert-rises _ _ (inv .3)),
       rw (put .1)
-          (marks-some _ _ _ (i at) _ _ _ (long (start at)) (inv .3) (at .loop-test .taken) _
+          (marks-some _ _ _ (i at) _ _ _ (long (start at)) (inv .4) (at .loop-test .taken) _
           (first-beyond _ _ _ _ (placed at) (placed-next at) _ _ (begins at .same) (ends at .same) (fits fitted)
           (sym (at-if .before .beyond .ensures) ∙ not-false _ (at-if .if2 .left)))),
     )
@@ -246,7 +255,7 @@ returns c =
     let head = c .before in
     let inv = head .loop .inv in
     given-rows (head .loop .rows) (head .loop .count) (omega (arith, inv, head .before .pre .0))
-    ∙ ap given (marks-all _ _ _ (head .loop .i) _ _ _ (long (head .before)) (inv .3) (c .loop-test .left))
+    ∙ ap given (marks-all _ _ _ (head .loop .i) _ _ _ (long (head .before)) (inv .4) (c .loop-test .left))
 
 pub marks-of-spec : {M : Type 1} → statement M
 marks-of-spec =
