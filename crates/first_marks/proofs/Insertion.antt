@@ -1,12 +1,11 @@
 -- Rows of marks whose bars rise: one put in at its place, one law for each way through the code's loop. Assumes nothing.
-use Prim.Native.Nat.{ℕ, suc, _+_, _<_, _≤_}
+use Prim.Native.Nat.{ℕ, _+_, _<_, _≤_}
 use native.Mathlib.Omega.{arith}
-use native.Mathlib.Numerals.{add-one}
 use mathlib.Core.Path.{_≡_, refl, sym, ap, _∙_}
 use mathlib.Core.Bool.{Bool, true, false, cond}
 use mathlib.Core.List.{List, [], _∷_, _++_, append-assoc}
 use lib.ListN.{length, getD, set, take, drop, length-set, take-append-drop}
-use lib.Seq.{take-suc, take-take, take-set-lt, drop-set-lt}
+use lib.Seq.{take-take, take-set-lt, drop-set-lt}
 use lib.Dec.{eqb, ltb}
 use lib.Ieee.{nan}
 use borrow.Author.Tests.{lt-ltb, le-ltb, eq-eqb, ne-eqb}
@@ -18,6 +17,7 @@ use Rattle.laws.proofs.Lists.{cons, then}
 use Rattle.laws.proofs.Arrays.{left-more, left-none}
 use Rattle.laws.proofs.Earlier.{inserts-rising}
 use Rattle.mark_rows.proofs.Bars.{put-next, put-last}
+use Rattle.mark_rows.proofs.Filled.{one-taken}
 use Rattle.first_marks.specs.Placed.{barsOf}
 
 -- what an array's place outside holds
@@ -29,36 +29,19 @@ no-mark = record { «bar_index» = 0; price = nan; «is_buy» = false }
 insert-bars : (xs : List FirstMark) (m : FirstMark) → barsOf (insertFirst xs m) ≡ insertBar (barsOf xs) (m .«bar_index»)
 unfolding insertFirst insertBar
 insert-bars [] m = refl
-insert-bars (x ∷ xs) m = go (ltb (m .«bar_index») (x .«bar_index»)) (eqb (m .«bar_index») (x .«bar_index»)) (insert-bars xs m)
+insert-bars (x ∷ xs) m = rw (← insert-bars xs m) (go (ltb (m .«bar_index») (x .«bar_index»)) (eqb (m .«bar_index») (x .«bar_index»)) (insertFirst xs m))
   where
     go :
-        (t u : Bool) → barsOf (insertFirst xs m) ≡ insertBar (barsOf xs) (m .«bar_index»)
-        → barsOf (cond t (m ∷ x ∷ xs) (cond u (x ∷ xs) (x ∷ insertFirst xs m)))
-        ≡ cond t (barsOf (m ∷ x ∷ xs)) (cond u (barsOf (x ∷ xs)) (x .«bar_index» ∷ insertBar (barsOf xs) (m .«bar_index»)))
-    go true u e = refl
-    go false true e = refl
-    go false false e = ap (λ (l : List ℕ). x .«bar_index» ∷ l) e
+        (t u : Bool) (l : List FirstMark) → barsOf (cond t (m ∷ x ∷ xs) (cond u (x ∷ xs) (x ∷ l)))
+        ≡ cond t (barsOf (m ∷ x ∷ xs)) (cond u (barsOf (x ∷ xs)) (barsOf (x ∷ l)))
+    go true u l = refl
+    go false true l = refl
+    go false false l = refl
 
 pub insert-rises : (xs : List FirstMark) (m : FirstMark) → Rising (barsOf xs) → Rising (barsOf (insertFirst xs m))
 insert-rises xs m r = rw (insert-bars xs m) (inserts-rising (barsOf xs) (m .«bar_index» ∷ []) r)
 
--- ---- the definition at the next row
-module _ (x : FirstMark) (xs : List FirstMark) (m : FirstMark) where
-  insert-here : m .«bar_index» < x .«bar_index» → insertFirst (x ∷ xs) m ≡ m ∷ x ∷ xs
-  unfolding insertFirst
-  insert-here h = rw (insertFirst, lt-ltb _ _ h)
-
-  insert-same : m .«bar_index» ≡ x .«bar_index» → insertFirst (x ∷ xs) m ≡ x ∷ xs
-  unfolding insertFirst
-  insert-same e =
-      let h : x .«bar_index» ≤ m .«bar_index» = omega arith in
-      rw (insertFirst, le-ltb _ _ h, eq-eqb _ _ e)
-
-  insert-later : x .«bar_index» < m .«bar_index» → insertFirst (x ∷ xs) m ≡ x ∷ insertFirst xs m
-  unfolding insertFirst
-  insert-later h =
-      let not-below : x .«bar_index» ≤ m .«bar_index» = omega arith in
-      rw (insertFirst, le-ltb _ _ not-below, ne-eqb (m .«bar_index») (x .«bar_index») (λ e. omega arith))
+-- ---- one row
 
 -- a row stands before those behind it
 insert-front : (x : FirstMark) (xs : List FirstMark) → Rising (barsOf (x ∷ xs)) → insertFirst xs x ≡ x ∷ xs
@@ -100,27 +83,32 @@ module _ (count k : ℕ) (rows : List FirstMark) (m : FirstMark) (goal : List Fi
     rising = rw more at (i .rises)
 
     pub inserting-kept : m .«bar_index» ≡ x .«bar_index» → take count rows ≡ goal
+    unfolding insertFirst
     inserting-kept e =
-        let before : take k (take count rows) ≡ take k rows = take-take k count rows (i .within) in
-        let whole : take k rows ++ drop k (take count rows) ≡ take count rows = rw (← before) (take-append-drop k (take count rows)) in
-        sym whole ∙ (rw more (rw (insert-same x xs m e) at here))
+        let whole : take k rows ++ drop k (take count rows) ≡ take count rows =
+        rw (← take-take k count rows (i .within)) (take-append-drop k (take count rows)) in
+        let at-least : x .«bar_index» ≤ m .«bar_index» = omega arith in
+        sym whole ∙ (rw more (rw (insertFirst, le-ltb _ _ at-least, eq-eqb _ _ e) at here))
 
     pub inserting-later : x .«bar_index» < m .«bar_index» → Inserting count goal (k + 1) rows m
+    unfolding insertFirst
     inserting-later b =
+        let at-least : x .«bar_index» ≤ m .«bar_index» = omega arith in
+        let other : m .«bar_index» ≡ x .«bar_index» → ⊥ = λ e. omega arith in
         record {
           long = i .long;
           within = omega arith;
-          left = rw (add-one k, take-suc rows k no-mark (omega (arith, i .long)), append-assoc (take k rows) (x ∷ []) (insertFirst (drop (suc k) (take count rows)) m))
-              (rw (insert-later x xs m b, add-one k) at here);
+          left = rw (one-taken rows k no-mark (omega (arith, i .long)), append-assoc) (rw (insertFirst, le-ltb _ _ at-least, ne-eqb _ _ other) at here);
           rises = rises-on x xs rising;
         }
 
     -- it goes to place k, and the row there belongs in front of those behind it
     pub inserting-here : m .«bar_index» < x .«bar_index» → Inserting count goal (k + 1) (set rows k m) x
+    unfolding insertFirst
     inserting-here b =
         let same : drop (k + 1) (take count (set rows k m)) ≡ xs =
         (rw (take-set-lt count rows k m h) (drop-set-lt (k + 1) (take count rows) k m (omega arith))) in
-        let moved = put-next rows count k m goal (omega (arith, i .long)) (rw more (rw (insert-here x xs m b) at here)) no-mark h in
+        let moved = put-next rows count k m goal (omega (arith, i .long)) (rw more (rw (insertFirst, lt-ltb _ _ b) at here)) no-mark h in
         record {
           long = length-set rows k m ∙ i .long;
           within = omega arith;

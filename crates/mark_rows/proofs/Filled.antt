@@ -17,7 +17,7 @@ use Rattle.laws.proofs.Arrays.{one-more}
 use Rattle.mark_rows.specs.Rows.{barIn, sideIn, rowKey, markIn, marksIn}
 use Rattle.mark_rows.proofs.Gathered.{key-bar, key-side, marks-snoc}
 
-one-taken : {A : Type 0} (xs : List A) (i : ℕ) (d : A) → i < length xs → take (i + 1) xs ≡ take i xs ++ getD xs i d ∷ []
+pub one-taken : {A : Type 0} (xs : List A) (i : ℕ) (d : A) → i < length xs → take (i + 1) xs ≡ take i xs ++ getD xs i d ∷ []
 one-taken xs i d h = rw (add-one i, take-suc xs i d h)
 
 -- ---- rows given out
