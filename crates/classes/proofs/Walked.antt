@@ -5,7 +5,7 @@ use mathlib.Core.Path.{_≡_, refl, sym, _∙_}
 use mathlib.Core.Bool.{Bool, true, false, _&&_}
 use mathlib.Core.List.{List, [], _∷_, _++_, append-assoc, append-nil}
 use mathlib.Core.Option.{Option, none, some}
-use lib.ListN.{length, getElem?, set, take, drop, drop-of-length-le}
+use lib.ListN.{length, getElem?, drop, drop-of-length-le}
 use lib.Dec.{leb}
 use Rattle.chart.specs.declared.Class.{Class}
 use Rattle.rules.specs.Classes.{Item, wanted, tried, walk}

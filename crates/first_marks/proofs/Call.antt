@@ -23,7 +23,7 @@ use Rattle.rules.specs.Calls.{bigClassesCall, firstMarksCall}
 use Rattle.laws.proofs.Tests.{none-some, refuse-no, refuse-on}
 use Rattle.laws.proofs.Lists.{any-at, lt-at, collect-length}
 use Rattle.laws.proofs.Derived.{Rises, classes-rise}
-use Rattle.laws.proofs.Answers.{on-bad, on-good, answered-refused, Rows, rows-given, rows-refused}
+use Rattle.laws.proofs.Answers.{on-bad, on-good, answered-refused, Rows, call-bad, call-number, call-good, call-rows}
 use Rattle.first_marks.specs.Placed.{Placed, Stands}
 
 -- ---- the strokes of a class are there
@@ -57,14 +57,9 @@ rises-at items lo zero (n ∷ ks) k r e =
     subst (λ (x : Class). (x .first ≤ x .last) × (x .last < length items)) same (r .0 .upright, r .0 .inside)
 rises-at items lo (suc i) (n ∷ ks) k r e = rises-at items (suc (n .last)) i ks k (r .1) e
 
--- under two items there are no classes
-few-classes : (on : Bool) (items : List Item) → length items < 2 → classes on items ≡ []
-unfolding classes
-few-classes on items h = rw (lt-ltb (length items) 2 h)
-
--- so the strokes of every class are there, where 10 does not refuse
+-- so the strokes of every class are there, where 10 does not refuse; under two items there are no classes
 pub classes-stand : (on : Bool) (c : Levels) → lacks (bigItem c) (c .bigs) ≡ false → Stands c (bigClasses on c)
-unfolding lacks bigClasses
+unfolding lacks bigClasses classes
 classes-stand on c e i k there = by (ltb 1 (length (c .bigs))) refl
   where
     by : (b : Bool) → ltb 1 (length (c .bigs)) ≡ b → Placed c k
@@ -79,7 +74,7 @@ classes-stand on c e i k there = by (ltb 1 (length (c .bigs))) refl
     by false h =
         let items = collect (bigItem c) (c .bigs) in
         let few : length items < 2 = omega (arith, ltb-false 1 (length (c .bigs)) h, collect-length (bigItem c) (c .bigs)) in
-        absurd (none-some (rw (few-classes on items few) at there))
+        absurd (none-some (rw (lt-ltb (length items) 2 few) at there))
 
 -- and 10 does not refuse where nothing does
 accepted-lacks : (byte : ℕ) (c : Levels) → bigClassesRefusal byte c ≡ 0 → lacks (bigItem c) (c .bigs) ≡ false
@@ -90,44 +85,27 @@ accepted-lacks byte c e =
 
 -- ---- the answer, by that of the classes of bigs
 module _ (c : Chart) (byte n count : ℕ) (rows : List Class) (e : rowsAnswer n count rows ≡ bigClassesCall c byte) where
-  found-bad : badChart c ≡ true → rowsAnswer n count rows ≡ answered 21 []
-  unfolding bigClassesCall answered
-  found-bad b = e ∙ on-bad c _ b
-
-  found-good : badChart c ≡ false → rowsAnswer n count rows ≡ answered (bigClassesRefusal byte (levelsOf c)) (bigClasses (eqb byte 1) (levelsOf c))
-  unfolding bigClassesCall
-  found-good b = e ∙ on-good c _ b
-
   pub marks-refused : (buy : Bool) → (n ≡ 0 → ⊥) → refused n ≡ firstMarksCall buy c byte
-  unfolding firstMarksCall
+  unfolding bigClassesCall firstMarksCall
   marks-refused buy h = by (badChart c) refl
     where
       by : (b : Bool) → badChart c ≡ b → refused n ≡ firstMarksCall buy c byte
-      by true b =
-          let same : 21 ≡ n = rows-refused count rows 21 [] n h (found-bad b) in
-          rw (← same) (sym (on-bad c _ b))
+      by true b = rw (call-bad c (bigClassesRefusal byte) (bigClasses (eqb byte 1)) n count rows e b) (sym (on-bad c _ b))
       by false b =
-          let same = rows-refused count rows (bigClassesRefusal byte (levelsOf c)) (bigClasses (eqb byte 1) (levelsOf c)) n h (found-good b) in
-          sym (on-good c _ b ∙ answered-refused (bigClassesRefusal byte (levelsOf c)) n (firstMarks (eqb byte 1) buy (levelsOf c)) h same)
+          let same = call-number c (bigClassesRefusal byte) (bigClasses (eqb byte 1)) n count rows e b in
+          sym (on-good c _ b ∙ answered-refused (bigClassesRefusal byte (levelsOf c)) n (firstMarks (eqb byte 1) buy (levelsOf c)) h (sym same))
 
--- classes that are given: those of the chart's bigs, whose strokes are there, and the marks of the call are theirs
-module _ (c : Chart) (byte count : ℕ) (rows : List Class) (e : rowsAnswer 0 count rows ≡ bigClassesCall c byte) where
-  accepted : badChart c ≡ false
-  accepted = by (badChart c) refl
-    where
-      by : (b : Bool) → badChart c ≡ b → b ≡ false
-      by true b = let z : _≡_ {A = ℕ} 21 0 = rows-given count rows 21 [] (found-bad c byte 0 count rows e b) .accepted in absurd (omega arith)
-      by false b = refl
+  -- classes that are given: those of the chart's bigs, whose strokes are there, and the marks of the call are theirs
+  module _ (z : n ≡ 0) where
+    pub found : Rows count rows (bigClassesRefusal byte (levelsOf c)) (bigClasses (eqb byte 1) (levelsOf c))
+    unfolding bigClassesCall
+    found = call-rows c (bigClassesRefusal byte) (bigClasses (eqb byte 1)) n count rows e z
 
-  found : Rows count rows (bigClassesRefusal byte (levelsOf c)) (bigClasses (eqb byte 1) (levelsOf c))
-  found = rows-given count rows (bigClassesRefusal byte (levelsOf c)) (bigClasses (eqb byte 1) (levelsOf c)) (found-good c byte 0 count rows e accepted)
+    pub given-stand : Stands (levelsOf c) (take count rows)
+    given-stand = rw (found .same) (classes-stand (eqb byte 1) (levelsOf c) (accepted-lacks byte (levelsOf c) (found .accepted)))
 
-  pub given-few : count ≤ length rows
-  given-few = found .few
-
-  pub given-stand : Stands (levelsOf c) (take count rows)
-  given-stand = rw (found .same) (classes-stand (eqb byte 1) (levelsOf c) (accepted-lacks byte (levelsOf c) (found .accepted)))
-
-  pub marks-given : (buy : Bool) → given (foldl insertFirst [] (firstsOf (levelsOf c) buy (take count rows))) ≡ firstMarksCall buy c byte
-  unfolding firstMarksCall firstMarks answered
-  marks-given buy = rw (found .same) (sym (on-good c _ accepted ∙ rw (found .accepted)))
+    pub marks-given : (buy : Bool) → given (foldl insertFirst [] (firstsOf (levelsOf c) buy (take count rows))) ≡ firstMarksCall buy c byte
+    unfolding bigClassesCall firstMarksCall firstMarks answered
+    marks-given buy =
+        let good = call-good c (bigClassesRefusal byte) (bigClasses (eqb byte 1)) n count rows e z in
+        rw (found .same) (sym (on-good c _ good ∙ rw (found .accepted)))

@@ -2,21 +2,12 @@
 use native.Mathlib.Omega.{arith}
 use mathlib.Core.Path.{_≡_, _∙_}
 use lib.ListN.{length}
-use Rattle.rules.specs.Answer.{rowsAnswer}
-use Rattle.rules.specs.Calls.{bigClassesCall}
 use Rattle.laws.proofs.Answers.{refused-rows}
 use Rattle.laws.proofs.Arrays.{length-via}
-use Rattle.first_marks.proofs.Call.{marks-refused, given-few, given-stand, marks-given}
+use Rattle.first_marks.proofs.Call.{marks-refused, found, given-stand, marks-given}
 use borrow.Author.Needs.{needs}
 use Rattle.first_marks.proofs.first_markers.Statement.{statement}
 use Rattle.first_marks.proofs.first_markers.Tie as tie
-
--- the classes that were found, where they are not refused
-found :
-    (c : tie.Else1)
-    → rowsAnswer 0 (c .before .before .classify-sup-segments .result .count) (c .before .before .classify-sup-segments .result .rows)
-    ≡ bigClassesCall (c .before .before .before .args .chart) (c .before .before .before .args .case3)
-found c = rw (c .if1 .left) at (c .before .before .classify-sup-segments .ensures)
 
 long : (c : tie.Else1) → length (c .before .before .classify-sup-segments .result .rows) ≡ 256
 long c = search (needs, length-via)
@@ -32,10 +23,13 @@ returns c =
 marks-of-requires : tie.Need-marks-of-requires
 marks-of-requires c κs =
     let at = c .before in
-    (omega (arith, given-few _ _ _ _ (found at), long at), given-stand _ _ _ _ (found at))
+    let answer = at .before .before .classify-sup-segments .ensures in
+    (omega (arith, found _ _ _ _ _ answer (at .if1 .left) .few, long at), given-stand _ _ _ _ _ answer (at .if1 .left))
 
 returns-2 : tie.Need-returns-2
-returns-2 c = c .marks-of .ensures ∙ marks-given _ _ _ _ (found (c .before .before)) _
+returns-2 c =
+    let at = c .before .before in
+    c .marks-of .ensures ∙ marks-given _ _ _ _ _ (at .before .before .classify-sup-segments .ensures) (at .if1 .left) _
 
 pub first-markers-spec : {M : Type 1} → statement M
 first-markers-spec =
