@@ -19,7 +19,7 @@ use Rattle.rules.specs.Classes.{item, segmentItem, bigItem}
 use Rattle.laws.proofs.Arrays.{at-in}
 use Rattle.levels.specs.Read.{SafeIndex, strokeIf}
 use Rattle.levels.proofs.Read.{no-triple, no-stroke, held, stroke-read}
-use Rattle.classes.specs.Items.{levelOf, itemIn, itemFrom, Gathers}
+use Rattle.classes.specs.Items.{CountsFit, levelOf, itemIn, itemFrom, Gathers}
 use Rattle.classes.proofs.Items.{left-from}
 
 -- ---- an answer in front of others, where it is there
@@ -99,55 +99,55 @@ and-same : (b : Bool) → (b && b) ≡ b
 and-same true = refl
 and-same false = refl
 
-module _
-    (c : Chart) (long : (length (c .strokes) ≡ 512) × (length (c .segments) ≡ 256) × (length (c .bigs) ≡ 256))
-    (few : (c .«stroke_count» ≤ 512) × (c .«segment_count» ≤ 256) × (c .«big_count» ≤ 256))
-  where
-    pub level-length : (b : Bool) → length (levelOf b (levelsOf c)) ≡ cond b (c .«big_count») (c .«segment_count»)
-    unfolding levelsOf
-    level-length true = length-take-le _ (c .bigs) (omega (arith, long, few))
-    level-length false = length-take-le _ (c .segments) (omega (arith, long, few))
+abbrev pub Long : Chart → Type 0
+Long c = (length (c .strokes) ≡ 512) × (length (c .segments) ≡ 256) × (length (c .bigs) ≡ 256)
 
-    pub level-at :
-        (b : Bool) (i : ℕ) (t : Triple) → i < cond b (c .«big_count») (c .«segment_count»)
-        → t ≡ cond b (getD (c .bigs) i no-triple) (getD (c .segments) i no-triple) → getElem? (levelOf b (levelsOf c)) i ≡ some t
-    unfolding levelsOf
-    level-at true i t h e = rw e (at-in _ i (c .bigs) no-triple h (omega (arith, long, few)))
-    level-at false i t h e = rw e (at-in _ i (c .segments) no-triple h (omega (arith, long, few)))
+module _ (c : Chart) (long : Long c) (few : CountsFit c) where
+  pub level-length : (b : Bool) → length (levelOf b (levelsOf c)) ≡ cond b (c .«big_count») (c .«segment_count»)
+  unfolding levelsOf
+  level-length true = length-take-le _ (c .bigs) (omega (arith, long, few))
+  level-length false = length-take-le _ (c .segments) (omega (arith, long, few))
 
-    -- a stroke that is read for a segment
-    own-stroke :
-        (i p : ℕ) → SafeIndex i 512 p → strokeIf (c .«stroke_count») (c .«stroke_count») i i (getD (c .strokes) p no-stroke) ≡ getElem? (levelsOf c .strokes) i
-    unfolding strokeIf levelsOf
-    own-stroke i p w =
-        rw (and-same (ltb i (c .«stroke_count»))) (held _ i p (c .strokes) no-stroke (omega (arith, long, few)) (λ h. w .same (omega (arith, few))))
+  pub level-at :
+      (b : Bool) (i : ℕ) (t : Triple) → i < cond b (c .«big_count») (c .«segment_count»)
+      → t ≡ cond b (getD (c .bigs) i no-triple) (getD (c .segments) i no-triple) → getElem? (levelOf b (levelsOf c)) i ≡ some t
+  unfolding levelsOf
+  level-at true i t h e = rw e (at-in _ i (c .bigs) no-triple h (omega (arith, long, few)))
+  level-at false i t h e = rw e (at-in _ i (c .segments) no-triple h (omega (arith, long, few)))
 
-    -- the item by such records is the record's: m records are in the level below that of t, and u is t over strokes
-    pub item-read :
-        (b : Bool) (m p q f l : ℕ) (t u : Triple) → m ≡ cond b (c .«segment_count») (c .«stroke_count»)
-        → SafeIndex (t .first) 256 p → SafeIndex (t .last) 256 q
-        → u
-        ≡ cond b
-        (record {
-          direction = t .direction;
-          first = getD (c .segments) p no-triple .first;
-          last = getD (c .segments) q no-triple .last;
-        })
-        t
-        → SafeIndex (u .first) 512 f → SafeIndex (u .last) 512 l
-        → itemFrom m (c .«stroke_count») t u (getD (c .strokes) f no-stroke) (getD (c .strokes) l no-stroke) ≡ itemIn b (levelsOf c) t
-    unfolding itemFrom segmentItem bigItem firstStroke lastStroke
-    item-read true m p q f l t u em wp wq eu wf wl =
-        let first : u .first ≡ getD (c .segments) p no-triple .first = ap (λ (w : Triple). w .first) eu in
-        let last : u .last ≡ getD (c .segments) q no-triple .last = ap (λ (w : Triple). w .last) eu in
-        rw (
-          em,
-          first,
-          last,
-          stroke-read c (long .1) (long .0) (few .1) (few .0) t (λ (w : Triple). w .first) p f wp (rw first at wf),
-          stroke-read c (long .1) (long .0) (few .1) (few .0) t (λ (w : Triple). w .last) q l wq (rw last at wl),
-        )
-    item-read false m p q f l t u em wp wq eu wf wl =
-        let first : u .first ≡ t .first = ap (λ (w : Triple). w .first) eu in
-        let last : u .last ≡ t .last = ap (λ (w : Triple). w .last) eu in
-        rw (em, first, last, own-stroke (t .first) f (rw first at wf), own-stroke (t .last) l (rw last at wl))
+  -- a stroke that is read for a segment
+  own-stroke :
+      (i p : ℕ) → SafeIndex i 512 p → strokeIf (c .«stroke_count») (c .«stroke_count») i i (getD (c .strokes) p no-stroke) ≡ getElem? (levelsOf c .strokes) i
+  unfolding strokeIf levelsOf
+  own-stroke i p w =
+      rw (and-same (ltb i (c .«stroke_count»))) (held _ i p (c .strokes) no-stroke (omega (arith, long, few)) (λ h. w .same (omega (arith, few))))
+
+  -- the item by such records is the record's: m records are in the level below that of t, and u is t over strokes
+  pub item-read :
+      (b : Bool) (m p q f l : ℕ) (t u : Triple) → m ≡ cond b (c .«segment_count») (c .«stroke_count»)
+      → SafeIndex (t .first) 256 p → SafeIndex (t .last) 256 q
+      → u
+      ≡ cond b
+      (record {
+        direction = t .direction;
+        first = getD (c .segments) p no-triple .first;
+        last = getD (c .segments) q no-triple .last;
+      })
+      t
+      → SafeIndex (u .first) 512 f → SafeIndex (u .last) 512 l
+      → itemFrom m (c .«stroke_count») t u (getD (c .strokes) f no-stroke) (getD (c .strokes) l no-stroke) ≡ itemIn b (levelsOf c) t
+  unfolding itemFrom segmentItem bigItem firstStroke lastStroke
+  item-read true m p q f l t u em wp wq eu wf wl =
+      let first : u .first ≡ getD (c .segments) p no-triple .first = ap (λ (w : Triple). w .first) eu in
+      let last : u .last ≡ getD (c .segments) q no-triple .last = ap (λ (w : Triple). w .last) eu in
+      rw (
+        em,
+        first,
+        last,
+        stroke-read c (long .1) (long .0) (few .1) (few .0) t (λ (w : Triple). w .first) p f wp (rw first at wf),
+        stroke-read c (long .1) (long .0) (few .1) (few .0) t (λ (w : Triple). w .last) q l wq (rw last at wl),
+      )
+  item-read false m p q f l t u em wp wq eu wf wl =
+      let first : u .first ≡ t .first = ap (λ (w : Triple). w .first) eu in
+      let last : u .last ≡ t .last = ap (λ (w : Triple). w .last) eu in
+      rw (em, first, last, own-stroke (t .first) f (rw first at wf), own-stroke (t .last) l (rw last at wl))

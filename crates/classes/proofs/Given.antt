@@ -1,7 +1,7 @@
 -- The classes of items as rows, and the end of both calls. Assumes nothing.
 use Prim.Native.Nat.{ℕ, _<_, _≤_}
 use native.Mathlib.Omega.{arith}
-use mathlib.Core.Path.{_≡_, refl, sym, _∙_}
+use mathlib.Core.Path.{_≡_, _∙_}
 use mathlib.Core.Bool.{Bool, true, false}
 use mathlib.Core.List.{List, []}
 use mathlib.Core.Option.{Option, none}
@@ -12,12 +12,9 @@ use Rattle.chart.specs.declared.Class.{Class}
 use Rattle.chart.specs.declared.Triple.{Triple}
 use Rattle.rules.specs.Answer.{Answer, rowsAnswer, refused, given, answered}
 use Rattle.rules.specs.Lists.{collect}
-use Rattle.rules.specs.Refusals.{refuse, aboveOne, lacks, segmentClassesRefusal, bigClassesRefusal, badChart}
-use Rattle.chart.specs.declared.Chart.{Chart}
-use Rattle.rules.specs.Records.{levelsOf}
-use Rattle.rules.specs.Calls.{segmentClassesCall, bigClassesCall}
-use Rattle.rules.specs.Classes.{Item, segmentItem, bigItem, walk, extendAll, classes, segmentClasses, bigClasses}
-use Rattle.laws.proofs.Answers.{given-rows, on-bad, on-good}
+use Rattle.rules.specs.Refusals.{refuse, aboveOne, lacks}
+use Rattle.rules.specs.Classes.{Item, walk, extendAll, classes}
+use Rattle.laws.proofs.Answers.{given-rows}
 use Rattle.laws.proofs.Lists.{collect-length}
 use Rattle.classes.specs.declared.Rows.{Rows}
 use Rattle.classes.specs.Items.{Holds, Gathers}
@@ -59,21 +56,3 @@ module _ (f : Triple → Option Item) (ts : List Triple) (byte n : ℕ) (size : 
       pub ends-all : lacking ≡ false → a ≡ given (classes (eqb byte 1) got) → a ≡ ended
       unfolding answered refuse
       ends-all t e = rw (le-ltb 1 byte low, lacks-as, t, e, g .are t)
-
--- ---- the calls
-module _ (c : Chart) (byte : ℕ) (a : Answer (List Class)) where
-  pub segments-bad : badChart c ≡ true → a ≡ refused 21 → a ≡ segmentClassesCall c byte
-  unfolding segmentClassesCall
-  segments-bad b e = e ∙ sym (on-bad c _ b)
-
-  pub segments-good : badChart c ≡ false → a ≡ ended (segmentItem (levelsOf c)) (levelsOf c .segments) byte _ refl a → a ≡ segmentClassesCall c byte
-  unfolding segmentClassesCall segmentClassesRefusal segmentClasses
-  segments-good b e = e ∙ sym (on-good c _ b)
-
-  pub bigs-bad : badChart c ≡ true → a ≡ refused 21 → a ≡ bigClassesCall c byte
-  unfolding bigClassesCall
-  bigs-bad b e = e ∙ sym (on-bad c _ b)
-
-  pub bigs-good : badChart c ≡ false → a ≡ ended (bigItem (levelsOf c)) (levelsOf c .bigs) byte _ refl a → a ≡ bigClassesCall c byte
-  unfolding bigClassesCall bigClassesRefusal bigClasses
-  bigs-good b e = e ∙ sym (on-good c _ b)

@@ -10,6 +10,7 @@ use lib.Ieee.{Float, nan}
 use Rattle.chart.specs.declared.Stroke.{Stroke}
 use Rattle.chart.specs.declared.Triple.{Triple}
 use Rattle.chart.specs.declared.Class.{Class}
+use Rattle.chart.specs.declared.Chart.{Chart}
 use Rattle.rules.specs.Answer.{rowsAnswer, answered}
 use Rattle.rules.specs.Lists.{any, isNone, collect}
 use Rattle.rules.specs.Records.{Levels}
@@ -110,6 +111,10 @@ pub record Holds (r : Rows) (l : List Class) : Type 0 where
   pub are : take (r .count) (r .rows) ≡ l
 
 -- ---- items of a level
+
+-- a chart's counts are within its arrays
+abbrev pub CountsFit : Chart → Type 0
+CountsFit c = (c .«stroke_count» ≤ 512) × (c .«segment_count» ≤ 256) × (c .«big_count» ≤ 256)
 
 -- the records of the bigs (true) or of the segments (false), and the item of one
 abbrev pub levelOf : Bool → Levels → List Triple

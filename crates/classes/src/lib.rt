@@ -14,7 +14,7 @@ ghost use Rattle.rules.specs.Records.{isUp, levelsOf};
 ghost use Rattle.rules.specs.Classes.{beyond, atOrBeyond, atOrShort, walk, moved, extend, extendAll, classes};
 ghost use Rattle.rules.specs.Calls.{segmentClassesCall, bigClassesCall};
 ghost use Rattle.classes.specs.Items.{itemOf, itemAt, itemsOf, Case2, Wanted, Case3, EndsBefore, Tries, Holds};
-ghost use Rattle.classes.specs.Items.{levelOf, itemIn, itemFrom, readOf, Gathers, Ends};
+ghost use Rattle.classes.specs.Items.{CountsFit, levelOf, itemIn, itemFrom, readOf, Gathers, Ends};
 
 // The answer of a class call: a number, and where it is 0 the first `count` rows.
 pub struct ClassRows {
@@ -470,7 +470,7 @@ fn item_from(t: Triple, u: Triple, s: Stroke, e: Stroke, below: u16, strokes: u1
 
 // The items of the bigs or of the segments. An index is made safe before its place is read, and tested behind that, by item_from.
 fn items_of(chart: Chart, bigs: bool) -> Gathered
-    requires { ⌜ (chart .«stroke_count» ≤ 512) × (chart .«segment_count» ≤ 256) × (chart .«big_count» ≤ 256) ⌝ }
+    requires { ⌜ CountsFit chart ⌝ }
     ensures { λ r. ⌜ Gathers (itemIn bigs (levelsOf chart)) (levelOf bigs (levelsOf chart)) (r .lacking)
         (itemsOf (cond bigs (chart .«big_count») (chart .«segment_count»)) (r .directions) (r .starts) (r .ends)) ⌝ }
 {

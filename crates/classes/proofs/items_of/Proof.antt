@@ -11,7 +11,7 @@ use Rattle.laws.proofs.Arrays.{length-via}
 use Rattle.laws.proofs.Tests.{pick-cond}
 use Rattle.classes.specs.Items.{itemsOf, levelOf, itemIn, readOf}
 use Rattle.classes.proofs.Items.{item-more}
-use Rattle.classes.proofs.Gather.{Gathering, gathering-first, gathering-all, gathering-missing, gathering-there, level-length, level-at, item-read}
+use Rattle.classes.proofs.Gather.{Long, Gathering, gathering-first, gathering-all, gathering-missing, gathering-there, level-length, level-at, item-read}
 use borrow.Author.Needs.{needs}
 use Rattle.classes.proofs.items_of.Statement.{statement}
 use Rattle.classes.proofs.items_of.Tie as tie
@@ -24,9 +24,7 @@ Inv-loop bigs chart strokes segments n below got₀ k₀ got k =
 abbrev μ-loop : tie.MeasureT-loop
 μ-loop bigs chart strokes segments n below got₀ k₀ got k = n - k
 
-long :
-    (c : tie.Start Inv-loop μ-loop)
-    → (length (c .args .t1 .strokes) ≡ 512) × (length (c .args .t1 .segments) ≡ 256) × (length (c .args .t1 .bigs) ≡ 256)
+long : (c : tie.Start Inv-loop μ-loop) → Long (c .args .t1)
 long c = (search (needs, length-via), search (needs, length-via), search (needs, length-via))
 
 -- ---- places of the code
