@@ -12,12 +12,12 @@ use Rattle.chart.specs.declared.Class.{Class}
 use Rattle.chart.specs.declared.Triple.{Triple}
 use Rattle.rules.specs.Answer.{Answer, rowsAnswer, refused, given, answered}
 use Rattle.rules.specs.Lists.{collect}
-use Rattle.rules.specs.Refusals.{refuse, aboveOne, lacks}
+use Rattle.rules.specs.Refusals.{refuse, lacks}
 use Rattle.rules.specs.Classes.{Item, walk, extendAll, classes}
 use Rattle.laws.proofs.Answers.{given-rows}
 use Rattle.laws.proofs.Lists.{collect-length}
 use Rattle.classes.specs.declared.Rows.{Rows}
-use Rattle.classes.specs.Items.{Holds, Gathers}
+use Rattle.classes.specs.Items.{Holds, Gathers, ended}
 
 pub classes-given :
     (on : Bool) (items : List Item) (found all : Rows) → 1 < length items → Holds found (walk on items none 0 0 items)
@@ -29,15 +29,12 @@ classes-given on items found all more w e long =
 
 -- ---- one way through the end of a call each, its answer being a
 module _ (f : Triple → Option Item) (ts : List Triple) (byte n : ℕ) (size : length ts ≡ n) (a : Answer (List Class)) where
-  abbrev ended : Answer (List Class)
-  ended = answered (refuse (aboveOne byte) 2 (refuse (lacks f ts) 10 0)) (classes (eqb byte 1) (collect f ts))
-
-  pub ends-byte : 1 < byte → a ≡ refused 2 → a ≡ ended
+  pub ends-byte : 1 < byte → a ≡ refused 2 → a ≡ ended f ts byte
   unfolding answered refuse
   ends-byte h e = rw (lt-ltb 1 byte h, e)
 
   module _ (low : byte ≤ 1) where
-    pub ends-few : n < 2 → a ≡ given [] → a ≡ ended
+    pub ends-few : n < 2 → a ≡ given [] → a ≡ ended f ts byte
     unfolding answered refuse lacks classes
     ends-few h e =
         let one : length ts ≤ 1 = omega arith in
@@ -49,10 +46,10 @@ module _ (f : Triple → Option Item) (ts : List Triple) (byte n : ℕ) (size : 
       unfolding lacks
       lacks-as = let more : 1 < length ts = omega arith in rw (lt-ltb 1 (length ts) more, g .lack)
 
-      pub ends-lacking : lacking ≡ true → a ≡ refused 10 → a ≡ ended
+      pub ends-lacking : lacking ≡ true → a ≡ refused 10 → a ≡ ended f ts byte
       unfolding answered refuse
       ends-lacking t e = rw (le-ltb 1 byte low, lacks-as, t, e)
 
-      pub ends-all : lacking ≡ false → a ≡ given (classes (eqb byte 1) got) → a ≡ ended
+      pub ends-all : lacking ≡ false → a ≡ given (classes (eqb byte 1) got) → a ≡ ended f ts byte
       unfolding answered refuse
       ends-all t e = rw (le-ltb 1 byte low, lacks-as, t, e, g .are t)

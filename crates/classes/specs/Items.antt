@@ -11,7 +11,7 @@ use Rattle.chart.specs.declared.Stroke.{Stroke}
 use Rattle.chart.specs.declared.Triple.{Triple}
 use Rattle.chart.specs.declared.Class.{Class}
 use Rattle.chart.specs.declared.Chart.{Chart}
-use Rattle.rules.specs.Answer.{rowsAnswer, answered}
+use Rattle.rules.specs.Answer.{Answer, rowsAnswer, answered}
 use Rattle.rules.specs.Lists.{any, isNone, collect}
 use Rattle.rules.specs.Records.{Levels}
 use Rattle.rules.specs.Refusals.{refuse, aboveOne, lacks}
@@ -139,9 +139,12 @@ pub record Gathers {A : Type 0} (f : Triple → Option A) (ts : List Triple) (la
   pub lack : lacking ≡ any (λ (t : Triple). isNone (f t)) ts
   pub are : lacking ≡ false → got ≡ collect f ts
 
--- the answer r to n items that were gathered, with the case-3 byte, behind 21
+-- the answer to the records ts, whose items f gives, with the case-3 byte, behind 21
+abbrev pub ended : (Triple → Option Item) → List Triple → ℕ → Answer (List Class)
+ended f ts byte = answered (refuse (aboveOne byte) 2 (refuse (lacks f ts) 10 0)) (classes (eqb byte 1) (collect f ts))
+
+-- r is that to n items that were gathered
 abbrev pub Ends : Gathered → ℕ → ℕ → ClassRows → Type 0
 Ends g n byte r =
     (f : Triple → Option Item) (ts : List Triple) → length ts ≡ n → Gathers f ts (g .lacking) (itemsOf n (g .directions) (g .starts) (g .ends))
-    → rowsAnswer (r .number) (r .count) (r .rows)
-    ≡ answered (refuse (aboveOne byte) 2 (refuse (lacks f ts) 10 0)) (classes (eqb byte 1) (collect f ts))
+    → rowsAnswer (r .number) (r .count) (r .rows) ≡ ended f ts byte
