@@ -28,16 +28,16 @@ use Rattle.laws.proofs.Triples.{follows, more, of-cons}
 
 -- ---- case 2 ends among the items
 
-abbrev Within : ℕ → ℕ → Option ℕ → Type 0
-Within lo hi none = Unit {0}
-Within lo hi (some e) = (lo ≤ e) × (e < hi)
+abbrev EndWithin : ℕ → ℕ → Option ℕ → Type 0
+EndWithin lo hi none = Unit {0}
+EndWithin lo hi (some e) = (lo ≤ e) × (e < hi)
 
 case2From-ok :
-    (lo hi : ℕ) (x : Item) (top : Float) (j : ℕ) (ys : List Item) → lo ≤ j → j + length ys ≤ hi → Within lo hi (case2From x top j ys)
+    (lo hi : ℕ) (x : Item) (top : Float) (j : ℕ) (ys : List Item) → lo ≤ j → j + length ys ≤ hi → EndWithin lo hi (case2From x top j ys)
 unfolding case2From
 case2From-ok lo hi x top j [] h k = tt
 case2From-ok lo hi x top j (y ∷ ys) h k =
-    let W = Within lo hi in
+    let W = EndWithin lo hi in
     let on = case2From x top (suc j) ys in
     let next = case2From x (y .end) (suc j) ys in
     let ends : Option ℕ = elim (beyond (x .direction) (y .end) top) [ true ↦ some j | false ↦ next ] in
@@ -49,11 +49,11 @@ case2From-ok lo hi x top j (y ∷ ys) h k =
     (pick W (beyond (x .direction) (y .end) top) (some j) next (h, omega arith) b))
     a
 
-case2-ok : (items : List Item) (i : ℕ) → i < length items → Within i (length items) (case2 items i)
+case2-ok : (items : List Item) (i : ℕ) → i < length items → EndWithin i (length items) (case2 items i)
 unfolding case2
 case2-ok items i h = go (getElem? items i)
   where
-    go : (o : Option Item) → Within i (length items) (andThen o (λ (x : Item). case2From x (x .end) (suc i) (drop (suc i) items)))
+    go : (o : Option Item) → EndWithin i (length items) (andThen o (λ (x : Item). case2From x (x .end) (suc i) (drop (suc i) items)))
     go none = tt
     go (some x) = case2From-ok i (length items) x (x .end) (suc i) (drop (suc i) items) (omega arith) (omega (arith, length-drop (suc i) items))
 
@@ -96,7 +96,7 @@ module _ (items : List Item) (k : Option Class) (i : ℕ) (x : Item) (t : getEle
       (go (case2 items i) (case2-ok items i h))
     where
       go :
-          (o : Option ℕ) → Within i (length items) o → FitsAny items i (elim o [ none ↦ none | some e ↦ some (classAt items k i x e false) ])
+          (o : Option ℕ) → EndWithin i (length items) o → FitsAny items i (elim o [ none ↦ none | some e ↦ some (classAt items k i x e false) ])
       go none w = tt
       go (some e) w = class-at e false (w .0) (w .1)
 

@@ -22,10 +22,10 @@ use Rattle.laws.proofs.Thirds.{thirds-beyond}
 use Rattle.laws.proofs.Unique.{numbered-all, marks-all}
 use Rattle.laws.proofs.Room.{AtEnd, mark-bars}
 
-abbrev Priced : Quotes → NMark → Type 0
-Priced q m = priceAt q (m .«is_buy») (m .«bar_index») ≡ m .price
+abbrev PricedAsLent : Quotes → NMark → Type 0
+PricedAsLent q m = priceAt q (m .«is_buy») (m .«bar_index») ≡ m .price
 
-marks-priced : (c : Levels) (q : Quotes) → All (Priced q) (nMarks c q)
+marks-priced : (c : Levels) (q : Quotes) → All (PricedAsLent q) (nMarks c q)
 unfolding orderZero markAt anchorNumbered quote priceAt
 marks-priced c q =
     let buy = anchorSide (c .superiors) in
