@@ -46,19 +46,6 @@ module _ (items : List Item) (n stop : ℕ) (k : Class) (size : length items ≡
         add-one (k .last),
       )
 
-module _ (k : Class) (p : Float) (j : ℕ) (y : Item) (ys : List Item) where
-  over-yes :
-      (eqb (y .direction) (k .direction) && atOrBeyond (k .direction) (y .end) p) ≡ true
-      → extendOver k p j (y ∷ ys) ≡ extendOver (moved k j) (y .end) (j + 1) ys
-  unfolding extendOver
-  over-yes e = rw (extendOver, e, add-one j)
-
-  over-no :
-      (eqb (y .direction) (k .direction) && atOrBeyond (k .direction) (y .end) p) ≡ false
-      → extendOver k p j (y ∷ ys) ≡ extendOver k p (j + 1) ys
-  unfolding extendOver
-  over-no e = rw (extendOver, e, add-one j)
-
 -- k is the class as it is extended so far, and item j the next
 module _ (items : List Item) (j : ℕ) (k goal : Class) (p : Float) (left : extendOver k p j (drop j items) ≡ goal) where
   pub over-none : length items ≤ j → k ≡ goal
@@ -77,10 +64,12 @@ module _ (items : List Item) (j : ℕ) (k goal : Class) (p : Float) (left : exte
       here = rw (left-from items j y there) at left
 
       pub over-pass : r ≡ false → extendOver k p (j + 1) ys ≡ goal
-      over-pass e = sym (over-no k p j y ys (sym reaches ∙ e)) ∙ here
+      unfolding extendOver
+      over-pass e = rw (add-one j) (rw (extendOver, sym reaches ∙ e, add-one j) at here)
 
       pub over-moves : (m : Class) → r ≡ true → m ≡ moved k j → extendOver m (y .end) (j + 1) ys ≡ goal
-      over-moves m e f = rw f (sym (over-yes k p j y ys (sym reaches ∙ e)) ∙ here)
+      unfolding extendOver
+      over-moves m e f = rw (f, add-one j) (rw (extendOver, sym reaches ∙ e, add-one j) at here)
 
 -- ---- all classes
 

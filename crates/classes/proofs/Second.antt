@@ -2,7 +2,7 @@
 -- Assumes nothing.
 use Prim.Native.Nat.{ℕ, _+_, _≤_}
 use native.Mathlib.Numerals.{add-one}
-use mathlib.Core.Path.{_≡_, refl, sym, _∙_}
+use mathlib.Core.Path.{_≡_, refl}
 use mathlib.Core.Bool.{Bool, true, false, cond}
 use mathlib.Core.List.{List, _∷_}
 use mathlib.Core.Option.{Option, none, some}
@@ -35,27 +35,6 @@ pub second-begins :
 unfolding case2
 second-begins items i x e = rw (e, add-one i)
 
-module _ (x y : Item) (top : Float) (j : ℕ) (ys : List Item) where
-  from-other : (y .direction ≡ x .direction → ⊥) → case2From x top j (y ∷ ys) ≡ case2From x top (j + 1) ys
-  unfolding case2From
-  from-other d = rw (case2From, ne-eqb _ _ d, add-one j)
-
-  from-fails : y .direction ≡ x .direction → atOrShort (x .direction) (y .start) (x .start) ≡ true → case2From x top j (y ∷ ys) ≡ none
-  unfolding case2From
-  from-fails d s = rw (case2From, eq-eqb _ _ d, s)
-
-  from-ends :
-      y .direction ≡ x .direction → atOrShort (x .direction) (y .start) (x .start) ≡ false
-      → beyond (x .direction) (y .end) top ≡ true → case2From x top j (y ∷ ys) ≡ some j
-  unfolding case2From
-  from-ends d s b = rw (case2From, eq-eqb _ _ d, s, b)
-
-  from-next :
-      y .direction ≡ x .direction → atOrShort (x .direction) (y .start) (x .start) ≡ false
-      → beyond (x .direction) (y .end) top ≡ false → case2From x top j (y ∷ ys) ≡ case2From x (y .end) (j + 1) ys
-  unfolding case2From
-  from-next d s b = rw (case2From, eq-eqb _ _ d, s, b, add-one j)
-
 -- x is the item whose case 2 is sought, and item j the next
 module _ (items : List Item) (j : ℕ) (x : Item) (top : Float) (goal : Option ℕ) (left : case2From x top j (drop j items) ≡ goal) where
   pub second-over : length items ≤ j → none ≡ goal
@@ -70,14 +49,18 @@ module _ (items : List Item) (j : ℕ) (x : Item) (top : Float) (goal : Option �
     here = rw (left-from items j y there) at left
 
     pub second-other : (y .direction ≡ x .direction → ⊥) → case2From x top (j + 1) ys ≡ goal
-    second-other d = sym (from-other x y top j ys d) ∙ here
+    unfolding case2From
+    second-other d = rw (add-one j) (rw (case2From, ne-eqb _ _ d, add-one j) at here)
 
     pub second-fails : y .direction ≡ x .direction → atOrShort (x .direction) (y .start) (x .start) ≡ true → none ≡ goal
-    second-fails d s = sym (from-fails x y top j ys d s) ∙ here
+    unfolding case2From
+    second-fails d s = rw (case2From, eq-eqb _ _ d, s) at here
 
     module _ (d : y .direction ≡ x .direction) (s : atOrShort (x .direction) (y .start) (x .start) ≡ false) where
       pub second-ends : beyond (x .direction) (y .end) top ≡ true → some j ≡ goal
-      second-ends b = sym (from-ends x y top j ys d s b) ∙ here
+      unfolding case2From
+      second-ends b = rw (case2From, eq-eqb _ _ d, s, b) at here
 
       pub second-next : beyond (x .direction) (y .end) top ≡ false → case2From x (y .end) (j + 1) ys ≡ goal
-      second-next b = sym (from-next x y top j ys d s b) ∙ here
+      unfolding case2From
+      second-next b = rw (add-one j) (rw (case2From, eq-eqb _ _ d, s, b, add-one j) at here)

@@ -18,23 +18,6 @@ use Rattle.classes.specs.declared.NewClass.the-variants.{Found, Nothing}
 use Rattle.classes.specs.Items.{itemOf, Case2, LastKept, Wanted, Begins, Tries}
 use Rattle.classes.proofs.Items.{left-from}
 
--- ---- the definition at the next item
-module _ (on : Bool) (items : List Item) (k : Option Class) (next i : ℕ) (x : Item) (xs : List Item) where
-  walk-pass : (leb next i && wanted k x) ≡ false → walk on items k next i (x ∷ xs) ≡ walk on items k next (i + 1) xs
-  unfolding walk
-  walk-pass e = rw (walk, e, add-one i)
-
-  walk-none :
-      (leb next i && wanted k x) ≡ true → tried on items k i x ≡ none → walk on items k next i (x ∷ xs) ≡ walk on items k next (i + 1) xs
-  unfolding walk
-  walk-none e t = rw (walk, e, t, add-one i)
-
-  walk-some :
-      (m : Class) → (leb next i && wanted k x) ≡ true → tried on items k i x ≡ some m
-      → walk on items k next i (x ∷ xs) ≡ m ∷ walk on items (some m) (m .last + 1) (i + 1) xs
-  unfolding walk
-  walk-some m e t = rw (walk, e, t, add-one i, add-one (m .last))
-
 -- ---- the classes that are done, and the walk from item i on after the last one: together all
 pub record Carries (on : Bool) (items : List Item) (l : Last) (next i : ℕ) (done goal : List Class) : Type 0 where
   pub k : Option Class
@@ -63,14 +46,15 @@ module _ (on : Bool) (items : List Item) (i : ℕ) (l : Last) (next : ℕ) (done
       here = rw (left-from items i (itemOf x) there) at (c .rest)
 
       pub carries-pass : b ≡ false → Carries on items l next (i + 1) done goal
-      carries-pass e =
-          record { k = c .k; stands = c .stands; rest = rw (walk-pass on items (c .k) next i (itemOf x) left (tested ∙ e)) at here }
+      unfolding walk
+      carries-pass e = record { k = c .k; stands = c .stands; rest = rw (add-one i) (rw (walk, tested ∙ e, add-one i) at here) }
 
       module _ (n : ℕ) (h : i < n) (end : End) (second : Case2 items n i end) (r : NewClass) (tries : Tries on l i x end r) (e : b ≡ true) where
         pub carries-none : r ≡ Nothing → Carries on items l next (i + 1) done goal
+        unfolding walk
         carries-none f =
             let t : tried on items (c .k) i (itemOf x) ≡ none = sym (rw f at (tries .same items (c .k) (c .stands) (second .same))) in
-            record { k = c .k; stands = c .stands; rest = rw (walk-none on items (c .k) next i (itemOf x) left (tested ∙ e) t) at here }
+            record { k = c .k; stands = c .stands; rest = rw (add-one i) (rw (walk, tested ∙ e, t, add-one i) at here) }
 
         -- a class that was found begins here, in the direction of the item, and ends among the items
         pub carries-begins : (m : Class) → r ≡ Found m → Begins n i x (Found m)
@@ -79,6 +63,7 @@ module _ (on : Bool) (items : List Item) (i : ℕ) (l : Last) (next : ℕ) (done
         pub carries-some :
             (m : Class) → r ≡ Found m
             → Carries on items (After (record { direction = x .direction; start = x .start; end = end })) (m .last + 1) (i + 1) (done ++ m ∷ []) goal
+        unfolding walk
         carries-some m f =
             let t : tried on items (c .k) i (itemOf x) ≡ some m = sym (rw f at (tries .same items (c .k) (c .stands) (second .same))) in
             let g = carries-begins m f in
@@ -94,5 +79,5 @@ module _ (on : Bool) (items : List Item) (i : ℕ) (l : Last) (next : ℕ) (done
                   };
               rest =
                   append-assoc done (m ∷ []) (walk on items (some m) (m .last + 1) (i + 1) left)
-                  ∙ (rw (walk-some on items (c .k) next i (itemOf x) left m (tested ∙ e) t) at here);
+                  ∙ (rw (add-one i, add-one (m .last)) (rw (walk, tested ∙ e, t, add-one i) at here));
             }
