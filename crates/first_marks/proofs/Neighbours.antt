@@ -99,16 +99,6 @@ module _ (c : Levels) (buy : Bool) (q n : Class) (p : Placed c q) (r : Placed c 
     unfolding firstOf
     first-beyond b = rw (begins, ends, f, b)
 
--- ---- the definition at the next two classes
-module _ (c : Levels) (buy : Bool) (q n : Class) (ks : List Class) where
-  firsts-none : firstOf c buy q n ≡ none → firstsOf c buy (q ∷ n ∷ ks) ≡ firstsOf c buy (n ∷ ks)
-  unfolding firstsOf
-  firsts-none e = rw (firstsOf, e)
-
-  firsts-some : (m : FirstMark) → firstOf c buy q n ≡ some m → firstsOf c buy (q ∷ n ∷ ks) ≡ m ∷ firstsOf c buy (n ∷ ks)
-  unfolding firstsOf
-  firsts-some m e = rw (firstsOf, e)
-
 -- ---- the marks so far, and those of the classes that are left
 module _
     (c : Levels) (buy : Bool) (n i : ℕ) (ks : List Class) (marks goal : List FirstMark) (all : n ≤ length ks)
@@ -139,12 +129,14 @@ module _
       here = rw (left-more n i ks no-class (omega arith) all, next) at left
 
       pub marks-none : firstOf c buy q k ≡ none → foldl insertFirst marks (firstsOf c buy (drop (i + 1) (take n ks))) ≡ goal
-      marks-none e = rw next (rw (firsts-none c buy q k rest e) at here)
+      unfolding firstsOf
+      marks-none e = rw next (rw (firstsOf, e) at here)
 
       pub marks-some :
           (m : FirstMark) → firstOf c buy q k ≡ some m
           → foldl insertFirst (insertFirst marks m) (firstsOf c buy (drop (i + 1) (take n ks))) ≡ goal
-      marks-some m e = rw next (rw (firsts-some c buy q k rest m e) at here)
+      unfolding firstsOf
+      marks-some m e = rw next (rw (firstsOf, e) at here)
 
 -- the class at a place is placed
 pub stands-at :
