@@ -63,18 +63,17 @@ module _ (l : Last) (i : ℕ) where
   unfolding endsBefore
   before-end h j e n = a-class l _ _ h e (λ items k s. rw (endsBefore, s .second, n, add-one j))
 
--- t: case 3 holds of x, b: the last class's first item has a case 2 that ends before it, a: both
+-- t: case 3 holds of x, b: the last class's first item has a case 2 that ends before it
 module _
-    (on : Bool) (l : Last) (i : ℕ) (x : struct.Item) (end : End) (t b a : Bool) (third : Case3 l x t) (before : EndsBefore l i b)
-    (adjacent : a ≡ (t && b))
+    (on : Bool) (l : Last) (i : ℕ) (x : struct.Item) (end : End) (t b : Bool) (third : Case3 l x t) (before : EndsBefore l i b)
   where
     abbrev begun : ℕ → Bool → Class
     begun e by3 =
-        record { first = i; last = e; direction = x .direction; «by_case3» = by3; extended = false; «base_adjacent» = a }
+        record { first = i; last = e; direction = x .direction; «by_case3» = by3; extended = false; «base_adjacent» = t && b }
 
     begun-at : (items : List Item) (k : Option Class) → LastKept items k l → (e : ℕ) (by3 : Bool) → begun e by3 ≡ classAt items k i (itemOf x) e by3
     unfolding classAt
-    begun-at items k s e by3 = rw (← third items k s, ← before items k s, adjacent)
+    begun-at items k s e by3 = rw (← third items k s, ← before items k s)
 
     pub tried-third : (on && t) ≡ true → Tries on l i x end (Found (begun i true))
     unfolding tried

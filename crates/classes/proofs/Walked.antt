@@ -32,24 +32,24 @@ module _ (on : Bool) (items : List Item) (i : ℕ) (l : Last) (next : ℕ) (done
   unfolding walk
   carries-all h = sym (append-nil done) ∙ (rw (drop-of-length-le items {i = i} h) at (c .rest))
 
-  -- x is item i, and b tells whether it is tried
+  -- x is item i, and w tells whether it is wanted
   module _
-      (x : struct.Item) (there : getElem? items i ≡ some (itemOf x)) (w b : Bool) (wants : Wanted l x w) (tests : b ≡ (leb next i && w))
+      (x : struct.Item) (there : getElem? items i ≡ some (itemOf x)) (w : Bool) (wants : Wanted l x w)
     where
       abbrev left : List Item
       left = drop (i + 1) items
 
-      tested : (leb next i && wanted (c .k) (itemOf x)) ≡ b
-      tested = rw (tests, wants items (c .k) (c .stands))
+      tested : (leb next i && wanted (c .k) (itemOf x)) ≡ (leb next i && w)
+      tested = rw (wants items (c .k) (c .stands))
 
       here : done ++ walk on items (c .k) next i (itemOf x ∷ left) ≡ goal
       here = rw (left-from items i (itemOf x) there) at (c .rest)
 
-      pub carries-pass : b ≡ false → Carries on items l next (i + 1) done goal
+      pub carries-pass : (leb next i && w) ≡ false → Carries on items l next (i + 1) done goal
       unfolding walk
       carries-pass e = record { k = c .k; stands = c .stands; rest = rw (add-one i) (rw (walk, tested ∙ e, add-one i) at here) }
 
-      module _ (n : ℕ) (h : i < n) (end : End) (second : Case2 items n i end) (r : NewClass) (tries : Tries on l i x end r) (e : b ≡ true) where
+      module _ (n : ℕ) (h : i < n) (end : End) (second : Case2 items n i end) (r : NewClass) (tries : Tries on l i x end r) (e : (leb next i && w) ≡ true) where
         pub carries-none : r ≡ Nothing → Carries on items l next (i + 1) done goal
         unfolding walk
         carries-none f =

@@ -176,16 +176,6 @@ fn wanted(last: Last, x: Item) -> bool
     k.direction != x.direction
 }
 
-// a and b, as a value: no two ways meet where it is asked.
-fn both(a: bool, b: bool) -> bool
-    ensures { λ r. ⌜ r ≡ (a && b) ⌝ }
-{
-    if a {
-        return b;
-    }
-    false
-}
-
 // The class of an item that was tried, where it begins one.
 enum NewClass {
     Found(Class),
@@ -199,8 +189,8 @@ fn tried(on: bool, last: Last, i: u16, x: Item, end: End) -> NewClass
 {
     let third = case3(last, x);
     let before = ends_before(last, i);
-    let adjacent = both(third, before);
-    if both(on, third) {
+    let adjacent = third & before;
+    if on & third {
         return NewClass::Found(Class {
             first: i,
             last: i,
@@ -258,7 +248,7 @@ fn walk<'a>(
     while i < n {
         let x = item_at(directions, starts, ends, i);
         let now = wanted(last, x);
-        if !both(next <= i, now) {
+        if !((next <= i) & now) {
             i += 1;
             continue;
         }
@@ -287,8 +277,7 @@ fn walk<'a>(
 fn reaches(k: Class, y: Item, p: f64) -> bool
     ensures { λ r. ⌜ r ≡ (eqb (y .direction) (k .direction) && atOrBeyond (k .direction) (y .end) p) ⌝ }
 {
-    let same = y.direction == k.direction;
-    both(same, at_or_beyond(k.direction, y.end, p))
+    (y.direction == k.direction) & at_or_beyond(k.direction, y.end, p)
 }
 
 // The class with item j as its end.

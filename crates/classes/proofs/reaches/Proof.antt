@@ -6,11 +6,8 @@ use Rattle.classes.proofs.reaches.Tie as tie
 at-or-beyond-requires : tie.Need-at-or-beyond-requires
 at-or-beyond-requires c κs = search needs
 
-both-requires : tie.Need-both-requires
-both-requires c κs = search needs
-
 returns : tie.Need-returns
-returns c = rw (← c .before .at-or-beyond .ensures) (c .both .ensures)
+returns c = rw (c .at-or-beyond .ensures)
 
 pub reaches-spec : {M : Type 1} → statement M
-reaches-spec = tie.close (tie.spec at-or-beyond-requires both-requires returns)
+reaches-spec = tie.close (tie.spec at-or-beyond-requires returns)

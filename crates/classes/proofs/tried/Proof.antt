@@ -1,6 +1,5 @@
 -- `classes::tried` meets its contract. Assumes nothing.
 use Rattle.classes.proofs.After.{tried-third, tried-second, tried-none}
-use mathlib.Core.Path.{sym, _∙_}
 use borrow.Author.Needs.{needs}
 use Rattle.classes.proofs.tried.Statement.{statement}
 use Rattle.classes.proofs.tried.Tie as tie
@@ -11,17 +10,8 @@ case3-requires c κs = search needs
 ends-before-requires : tie.Need-ends-before-requires
 ends-before-requires c κs = search needs
 
-both-requires : tie.Need-both-requires
-both-requires c κs = search needs
-
-both-requires-2 : tie.Need-both-requires-2
-both-requires-2 c κs = search needs
-
 returns : tie.Need-returns
-returns c =
-    let at3 = c .before .before in
-    let at2 = at3 .before in
-    tried-third _ _ _ _ _ _ _ _ (at2 .before .case3 .ensures) (at2 .ends-before .ensures) (at3 .both .ensures) (sym (c .before .both2 .ensures) ∙ c .if1 .taken)
+returns c = let at2 = c .before in tried-third _ _ _ _ _ _ _ (at2 .before .case3 .ensures) (at2 .ends-before .ensures) (c .if1 .taken)
 
 enum-known-end : tie.Need-enum-known-end
 enum-known-end c = search needs
@@ -32,18 +22,14 @@ enum-told c = search needs
 returns-2 : tie.Need-returns-2
 returns-2 c =
     let at-if = c .before .before in
-    let at3 = at-if .before .before in
-    let at2 = at3 .before in
-    tried-none _ _ _ _ _ _ _ _ (at2 .before .case3 .ensures) (at2 .ends-before .ensures) (at3 .both .ensures)
-    (sym (at-if .before .both2 .ensures) ∙ at-if .if1 .left) (c .enum-told .given .1)
+    let at2 = at-if .before in
+    tried-none _ _ _ _ _ _ _ (at2 .before .case3 .ensures) (at2 .ends-before .ensures) (at-if .if1 .left) (c .enum-told .given .1)
 
 returns-3 : tie.Need-returns-3
 returns-3 c =
     let at-if = c .before .before .before in
-    let at3 = at-if .before .before in
-    let at2 = at3 .before in
-    tried-second _ _ _ _ _ _ _ _ (at2 .before .case3 .ensures) (at2 .ends-before .ensures) (at3 .both .ensures) _
-    (sym (at-if .before .both2 .ensures) ∙ at-if .if1 .left) (c .before .end .given .1)
+    let at2 = at-if .before in
+    tried-second _ _ _ _ _ _ _ (at2 .before .case3 .ensures) (at2 .ends-before .ensures) _ (at-if .if1 .left) (c .before .end .given .1)
 
 pub tried-spec : {M : Type 1} → statement M
 tried-spec =
@@ -51,8 +37,6 @@ tried-spec =
     (tie.spec
     case3-requires
     ends-before-requires
-    both-requires
-    both-requires-2
     returns
     enum-known-end
     enum-told

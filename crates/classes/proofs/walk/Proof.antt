@@ -41,9 +41,6 @@ here c = item-in _ _ _ _ _ _ (c .before .loop-test .taken) (c .item-at .ensures)
 wanted-requires : tie.Need-wanted-requires Inv-loop μ-loop
 wanted-requires c κs = search needs
 
-both-requires : tie.Need-both-requires Inv-loop μ-loop
-both-requires c κs = search needs
-
 add-i : tie.Need-add-i Inv-loop μ-loop
 add-i c = search needs
 
@@ -52,15 +49,13 @@ loop-less c = search needs
 
 loop-again : tie.Need-loop-again Inv-loop μ-loop
 loop-again c =
-    let at-both = c .before in
-    let at-wanted = at-both .before in
+    let at-wanted = c .before in
     let at-item = at-wanted .before in
     let head = at-item .before .before in (
       omega arith,
       omega arith,
       head .loop .inv .2,
-      carries-pass _ _ _ _ _ _ _ (head .loop .inv .3) _ (here at-item) _ _ (at-wanted .wanted .ensures)
-          (at-both .both .ensures) (not-true _ (c .if1 .taken)),
+      carries-pass _ _ _ _ _ _ _ (head .loop .inv .3) _ (here at-item) _ (at-wanted .wanted .ensures) (not-true _ (c .if1 .taken)),
     )
 
 case2-requires : tie.Need-case2-requires Inv-loop μ-loop
@@ -85,15 +80,13 @@ loop-again-2 : tie.Need-loop-again-2 Inv-loop μ-loop
 loop-again-2 c =
     let at-tried = c .before .before in
     let at-if = at-tried .before .before in
-    let at-both = at-if .before in
-    let at-wanted = at-both .before in
+    let at-wanted = at-if .before in
     let at-item = at-wanted .before in
     let head = at-item .before .before in (
       omega arith,
       omega arith,
       head .loop .inv .2,
-      carries-none _ _ _ _ _ _ _ (head .loop .inv .3) _ (here at-item) _ _ (at-wanted .wanted .ensures)
-          (at-both .both .ensures) _ (at-item .before .loop-test .taken) _ (at-tried .before .case2 .ensures) _ (at-tried .tried .ensures) (not-false _ (at-if .if1 .left))
+      carries-none _ _ _ _ _ _ _ (head .loop .inv .3) _ (here at-item) _ (at-wanted .wanted .ensures) _ (at-item .before .loop-test .taken) _ (at-tried .before .case2 .ensures) _ (at-tried .tried .ensures) (not-false _ (at-if .if1 .left))
           (c .enum-told .given .1),
     )
 
@@ -113,13 +106,11 @@ add-next : tie.Need-add-next Inv-loop μ-loop
 add-next c =
     let at-tried = c .before .before .before .before in
     let at-if = at-tried .before .before in
-    let at-both = at-if .before in
-    let at-wanted = at-both .before in
+    let at-wanted = at-if .before in
     let at-item = at-wanted .before in
     let head = at-item .before .before in
     let begins =
-    carries-begins _ _ _ _ _ _ _ (head .loop .inv .3) _ (here at-item) _ _ (at-wanted .wanted .ensures)
-    (at-both .both .ensures) _ (at-item .before .loop-test .taken) _ (at-tried .before .case2 .ensures) _ (at-tried .tried .ensures) (not-false _ (at-if .if1 .left))
+    carries-begins _ _ _ _ _ _ _ (head .loop .inv .3) _ (here at-item) _ (at-wanted .wanted .ensures) _ (at-item .before .loop-test .taken) _ (at-tried .before .case2 .ensures) _ (at-tried .tried .ensures) (not-false _ (at-if .if1 .left))
     _ (c .before .before .found .given .1) in
     omega (arith, begins .2, head .before .pre)
 
@@ -133,8 +124,7 @@ loop-again-3 : tie.Need-loop-again-3 Inv-loop μ-loop
 loop-again-3 c =
     let at-tried = c .before .before .before .before in
     let at-if = at-tried .before .before in
-    let at-both = at-if .before in
-    let at-wanted = at-both .before in
+    let at-wanted = at-if .before in
     let at-item = at-wanted .before in
     let head = at-item .before .before in
     let room : head .loop .count < length (head .loop .rows) = omega (arith, head .loop .inv, at-item .before .loop-test .taken, head .before .pre) in (
@@ -142,8 +132,7 @@ loop-again-3 c =
       omega (arith, head .loop .inv),
       simp length-set (head .loop .inv .2),
       rw (one-more (head .loop .rows) (head .loop .count) _ room)
-          (carries-some _ _ _ _ _ _ _ (head .loop .inv .3) _ (here at-item) _ _ (at-wanted .wanted .ensures)
-          (at-both .both .ensures) _ (at-item .before .loop-test .taken) _ (at-tried .before .case2 .ensures) _ (at-tried .tried .ensures) (not-false _ (at-if .if1 .left))
+          (carries-some _ _ _ _ _ _ _ (head .loop .inv .3) _ (here at-item) _ (at-wanted .wanted .ensures) _ (at-item .before .loop-test .taken) _ (at-tried .before .case2 .ensures) _ (at-tried .tried .ensures) (not-false _ (at-if .if1 .left))
           _ (c .before .before .found .given .1)),
     )
 
@@ -164,7 +153,6 @@ walk-spec =
     loop-holds
     item-at-requires
     wanted-requires
-    both-requires
     add-i
     loop-less
     loop-again
