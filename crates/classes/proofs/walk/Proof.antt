@@ -86,8 +86,9 @@ loop-again-2 c =
       omega arith,
       omega arith,
       head .loop .inv .2,
-      carries-none _ _ _ _ _ _ _ (head .loop .inv .3) _ (here at-item) _ (at-wanted .wanted .ensures) _ (at-item .before .loop-test .taken) _ (at-tried .before .case2 .ensures) _ (at-tried .tried .ensures) (not-false _ (at-if .if1 .left))
-          (c .enum-told .given .1),
+      carries-none _ _ _ _ _ _ _ (head .loop .inv .3) _ (here at-item) _
+          (at-wanted .wanted .ensures) _ (at-item .before .loop-test .taken) _ (at-tried .before .case2 .ensures) _ (at-tried .tried .ensures)
+          (not-false _ (at-if .if1 .left)) (c .enum-told .given .1),
     )
 
 cast-rows : tie.Need-cast-rows Inv-loop μ-loop
@@ -110,8 +111,9 @@ add-next c =
     let at-item = at-wanted .before in
     let head = at-item .before .before in
     let begins =
-    carries-begins _ _ _ _ _ _ _ (head .loop .inv .3) _ (here at-item) _ (at-wanted .wanted .ensures) _ (at-item .before .loop-test .taken) _ (at-tried .before .case2 .ensures) _ (at-tried .tried .ensures) (not-false _ (at-if .if1 .left))
-    _ (c .before .before .found .given .1) in
+    carries-begins _ _ _ _ _ _ _ (head .loop .inv .3) _ (here at-item) _
+    (at-wanted .wanted .ensures) _ (at-item .before .loop-test .taken) _ (at-tried .before .case2 .ensures) _ (at-tried .tried .ensures)
+    (not-false _ (at-if .if1 .left)) _ (c .before .before .found .given .1) in
     omega (arith, begins .2, head .before .pre)
 
 add-i-3 : tie.Need-add-i-3 Inv-loop μ-loop
@@ -132,8 +134,9 @@ loop-again-3 c =
       omega (arith, head .loop .inv),
       simp length-set (head .loop .inv .2),
       rw (one-more (head .loop .rows) (head .loop .count) _ room)
-          (carries-some _ _ _ _ _ _ _ (head .loop .inv .3) _ (here at-item) _ (at-wanted .wanted .ensures) _ (at-item .before .loop-test .taken) _ (at-tried .before .case2 .ensures) _ (at-tried .tried .ensures) (not-false _ (at-if .if1 .left))
-          _ (c .before .before .found .given .1)),
+          (carries-some _ _ _ _ _ _ _ (head .loop .inv .3) _ (here at-item) _
+          (at-wanted .wanted .ensures) _ (at-item .before .loop-test .taken) _ (at-tried .before .case2 .ensures) _ (at-tried .tried .ensures)
+          (not-false _ (at-if .if1 .left)) _ (c .before .before .found .given .1)),
     )
 
 returns : tie.Need-returns Inv-loop μ-loop
