@@ -1,4 +1,4 @@
--- Laws of ranges and end points that are read off the arrays of a chart. Assumes nothing.
+-- Laws of what is read off the arrays of a chart at indices made safe, and of ranges by it. Assumes nothing.
 use Prim.Native.Nat.{ℕ, _<_, _≤_, min}
 use native.Mathlib.Omega.{arith}
 use mathlib.Core.Path.{_≡_, refl, sym, _∙_}
@@ -13,12 +13,10 @@ use borrow.Author.Tests.{leb-true, leb-false, ltb-true, ltb-false, lt-ltb, le-lt
 use Rattle.chart.specs.declared.Stroke.{Stroke}
 use Rattle.chart.specs.declared.Triple.{Triple}
 use Rattle.chart.specs.declared.Range.the-variants.{Missing}
-use Rattle.chart.specs.declared.EndPoint.the-variants.{At, Nowhere}
 use Rattle.chart.specs.declared.Chart.{Chart}
-use Rattle.chart.specs.Table.{pointOf}
 use Rattle.rules.specs.Lists.{andThen}
-use Rattle.rules.specs.Records.{Levels, levelsOf}
-use Rattle.rules.specs.Ranges.{firstStroke, lastStroke, spanned, rangeOf, endPoint}
+use Rattle.rules.specs.Records.{levelsOf}
+use Rattle.rules.specs.Ranges.{firstStroke, lastStroke, spanned, rangeOf}
 use Rattle.laws.proofs.Arrays.{at-in, at-out}
 use Rattle.laws.proofs.Tests.{pick-cond}
 use Rattle.levels.specs.Read.{SafeIndex, heldIf, strokeIf, rangeFrom}
@@ -120,25 +118,3 @@ module _ (c : Chart) (b : Triple) (i j p q : ℕ) where
         stroke-read c ls lt few low b (λ (t : Triple). t .first) i p wi wp,
         stroke-read c ls lt few low b (λ (t : Triple). t .last) j q wj wq,
       )
-
--- ---- one way through end_point_of each
-module _ (c : Levels) (i : ℕ) where
-  pub end-no-big : getElem? (c .bigs) i ≡ none → Nowhere ≡ pointOf (endPoint c i)
-  unfolding endPoint
-  end-no-big e = rw e
-
-  pub end-no-segment : (b : Triple) → getElem? (c .bigs) i ≡ some b → getElem? (c .segments) (b .last) ≡ none → Nowhere ≡ pointOf (endPoint c i)
-  unfolding endPoint lastStroke
-  end-no-segment b e f = rw (e, f)
-
-  pub end-no-stroke :
-      (b z : Triple) → getElem? (c .bigs) i ≡ some b → getElem? (c .segments) (b .last) ≡ some z
-      → getElem? (c .strokes) (z .last) ≡ none → Nowhere ≡ pointOf (endPoint c i)
-  unfolding endPoint lastStroke
-  end-no-stroke b z e f g = rw (e, f, g)
-
-  pub end-found :
-      (b z : Triple) (s : Stroke) → getElem? (c .bigs) i ≡ some b → getElem? (c .segments) (b .last) ≡ some z
-      → getElem? (c .strokes) (z .last) ≡ some s → At (s .«end_bar») (s .«end_price») ≡ pointOf (endPoint c i)
-  unfolding endPoint lastStroke
-  end-found b z s e f g = rw (e, f, g)

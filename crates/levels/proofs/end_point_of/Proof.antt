@@ -1,6 +1,8 @@
 -- `levels::end_point_of` meets its contract. Assumes nothing.
+use Prim.Native.Nat.{_≤_}
 use Rattle.rules.specs.Records.{levelsOf}
-use Rattle.levels.proofs.Read.{no-triple, no-stroke, end-no-big, end-no-segment, end-no-stroke, end-found}
+use Rattle.rules.specs.Ranges.{lastStroke, endPoint}
+use Rattle.levels.proofs.Read.{no-triple, no-stroke}
 use native.Mathlib.Omega.{arith}
 use lib.ListN.{length, getD, getElem?}
 use mathlib.Core.Path.{_≡_}
@@ -35,8 +37,8 @@ segment-there c =
     at-in _ _ _ no-triple (c .if2 .left) (omega (arith, segments-long start, start .pre .1, c .if2 .left))
 
 returns : tie.Need-returns
-unfolding levelsOf
-returns c = end-no-big _ _ (at-out _ _ _ (c .if1 .taken))
+unfolding levelsOf endPoint
+returns c = let a = c .before .args in rw (at-out (a .t1 .«big_count») (a .big) (a .t1 .bigs) (c .if1 .taken))
 
 mul-b : tie.Need-mul-b
 mul-b c = search needs
@@ -45,8 +47,11 @@ element-copy-out-b : tie.Need-element-copy-out-b
 element-copy-out-b c = search needs
 
 returns-2 : tie.Need-returns-2
-unfolding levelsOf
-returns-2 c = end-no-segment _ _ _ (big-there (c .before .before .before)) (at-out _ _ _ (c .if2 .taken))
+unfolding levelsOf endPoint lastStroke
+returns-2 c =
+    let at1 = c .before .before .before in
+    let a = at1 .before .args in
+    rw (big-there at1, at-out (a .t1 .«segment_count») _ (a .t1 .segments) (c .if2 .taken))
 
 cast-z : tie.Need-cast-z
 cast-z c = search needs
@@ -58,10 +63,12 @@ element-copy-out-z : tie.Need-element-copy-out-z
 element-copy-out-z c = search needs
 
 returns-3 : tie.Need-returns-3
-unfolding levelsOf
+unfolding levelsOf endPoint lastStroke
 returns-3 c =
     let at2 = c .before .before .before .before in
-    end-no-stroke _ _ _ _ (big-there (at2 .before .before .before)) (segment-there at2) (at-out _ _ _ (c .if3 .taken))
+    let at1 = at2 .before .before .before in
+    let a = at1 .before .args in
+    rw (big-there at1, segment-there at2, at-out (a .t1 .«stroke_count») _ (a .t1 .strokes) (c .if3 .taken))
 
 cast-e : tie.Need-cast-e
 cast-e c = search needs
@@ -73,13 +80,14 @@ element-copy-out-e : tie.Need-element-copy-out-e
 element-copy-out-e c = search needs
 
 returns-4 : tie.Need-returns-4
-unfolding levelsOf
+unfolding levelsOf endPoint lastStroke
 returns-4 c =
     let at3 = c .before .before in
     let at2 = at3 .before .before .before .before in
     let at1 = at2 .before .before .before in
-    end-found _ _ _ _ _ (big-there at1) (segment-there at2)
-    (at-in _ _ _ no-stroke (at3 .if3 .left) (omega (arith, strokes-long (at1 .before), at1 .before .pre .2, at3 .if3 .left)))
+    let a = at1 .before .args in
+    let few : a .t1 .«stroke_count» ≤ length (a .t1 .strokes) = omega (arith, strokes-long (at1 .before), at1 .before .pre .2) in
+    rw (big-there at1, segment-there at2, at-in (a .t1 .«stroke_count») _ (a .t1 .strokes) no-stroke (at3 .if3 .left) (omega (arith, few, at3 .if3 .left)))
 
 pub end-point-of-spec : {M : Type 1} → statement M
 end-point-of-spec =
