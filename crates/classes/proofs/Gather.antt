@@ -8,7 +8,6 @@ use mathlib.Core.Option.{Option, none, some}
 use lib.ListN.{length, getD, getElem?, drop, drop-of-length-le}
 use lib.Seq.{length-take-le}
 use lib.Dec.{ltb}
-use borrow.Author.Tests.{lt-ltb, le-ltb}
 use Rattle.chart.specs.declared.Stroke.{Stroke}
 use Rattle.chart.specs.declared.Triple.{Triple}
 use Rattle.chart.specs.declared.Chart.{Chart}
@@ -63,35 +62,12 @@ module _ {A : Type 0} (f : Triple → Option A) (ts : List Triple) where
                 ∙ (rw (left-from ts i t there, collect-put f t (drop (i + 1) ts), e) at (l .rest));
           }
 
--- ---- one way through item_from each
+-- ---- an item without its last stroke
 
-item-no-end : (d : ℕ) (o : Option Stroke) → none ≡ item d o none
+pub item-no-end : (d : ℕ) (o : Option Stroke) → none ≡ item d o none
 unfolding item
 item-no-end d none = refl
 item-no-end d (some s) = refl
-
-module _ (m n : ℕ) (t u : Triple) (s e : Stroke) where
-  pub from-outside-first : m ≤ t .first → none ≡ itemFrom m n t u s e
-  unfolding itemFrom strokeIf item
-  from-outside-first h = rw (le-ltb _ _ h)
-
-  pub from-outside-last : m ≤ t .last → none ≡ itemFrom m n t u s e
-  unfolding itemFrom strokeIf
-  from-outside-last h = rw (le-ltb _ _ h) (item-no-end (t .direction) _)
-
-  pub from-no-first : t .first < m → n ≤ u .first → none ≡ itemFrom m n t u s e
-  unfolding itemFrom strokeIf item
-  from-no-first h k = rw (lt-ltb _ _ h, le-ltb _ _ k)
-
-  pub from-no-last : t .last < m → n ≤ u .last → none ≡ itemFrom m n t u s e
-  unfolding itemFrom strokeIf
-  from-no-last h k = rw (lt-ltb _ _ h, le-ltb _ _ k) (item-no-end (t .direction) _)
-
-  pub from-there :
-      t .first < m → t .last < m → u .first < n → u .last < n
-      → some (record { direction = t .direction; start = s .«start_price»; end = e .«end_price» }) ≡ itemFrom m n t u s e
-  unfolding itemFrom strokeIf item
-  from-there a z f l = simp (lt-ltb _ _ a, lt-ltb _ _ z, lt-ltb _ _ f, lt-ltb _ _ l)
 
 -- ---- the bigs (true) or the segments (false) of a chart
 
