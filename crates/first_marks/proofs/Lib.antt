@@ -1,4 +1,3 @@
-pub mod Fits
 pub mod Insertion
 pub mod Neighbours
 pub mod Call

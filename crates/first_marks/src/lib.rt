@@ -4,11 +4,11 @@ use chart::Class;
 use chart::FirstMark;
 ghost use Prim.Native.Nat.{_+_, _<_, _≤_};
 ghost use mathlib.Core.Path.{_≡_};
-ghost use mathlib.Core.Bool.{true, false, Bool·beq};
+ghost use mathlib.Core.Bool.{true, false};
 ghost use mathlib.Core.List.{[], foldl};
 ghost use lib.ListN.{take};
 ghost use Rattle.rules.specs.Answer.{rowsAnswer, given};
-ghost use Rattle.rules.specs.Records.{isUp, levelsOf};
+ghost use Rattle.rules.specs.Records.{levelsOf};
 ghost use Rattle.rules.specs.FirstMarks.{fitting, firstsOf, insertFirst};
 ghost use Rattle.rules.specs.Calls.{firstMarksCall};
 ghost use Rattle.laws.specs.Lists.{Rising};
@@ -29,37 +29,17 @@ const NO_MARK: FirstMark = FirstMark {
 
 // ---- neighbouring classes
 
-// Whether a direction is that of the side: up for a buy, down for a sell.
-fn sided(direction: u8, buy: bool) -> bool
-    ensures { λ r. ⌜ r ≡ Bool·beq (isUp direction) buy ⌝ }
-{
-    let up = direction == 1;
-    if buy {
-        return up;
-    }
-    !up
-}
-
-// Whether neighbouring classes q and n fit: for a buy, q is up, by case 3, adjacent and not extended, and n is down and by case 2.
+// Whether neighbouring classes q and n fit: for a buy, q is up, by case 3, adjacent and not extended, and n is down and by case 2; for a
+// sell, q is down and n up.
 fn fitting(buy: bool, q: Class, n: Class) -> bool
     ensures { λ r. ⌜ r ≡ fitting buy q n ⌝ }
 {
-    if !sided(q.direction, buy) {
-        return false;
-    }
-    if !q.by_case3 {
-        return false;
-    }
-    if !q.base_adjacent {
-        return false;
-    }
-    if q.extended {
-        return false;
-    }
-    if sided(n.direction, buy) {
-        return false;
-    }
-    !n.by_case3
+    ((q.direction == 1) == buy)
+        & q.by_case3
+        & q.base_adjacent
+        & !q.extended
+        & !((n.direction == 1) == buy)
+        & !n.by_case3
 }
 
 // ---- marks by bar
