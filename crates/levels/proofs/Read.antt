@@ -9,7 +9,7 @@ use lib.ListN.{length, getD, getElem?, take}
 use lib.Seq.{take-all}
 use lib.Dec.{leb, ltb}
 use lib.Ieee.{nan}
-use borrow.Author.Tests.{leb-true, leb-false, ltb-true, ltb-false, lt-ltb, le-ltb, le-leb, lt-leb}
+use borrow.Author.Tests.{leb-true, leb-false, ltb-true, ltb-false}
 use Rattle.chart.specs.declared.Stroke.{Stroke}
 use Rattle.chart.specs.declared.Triple.{Triple}
 use Rattle.chart.specs.declared.Range.the-variants.{Missing}
@@ -36,33 +36,11 @@ clipped n k l e = by (leb n k) refl
     by true h = let same : min n k ≡ n = omega (arith, leb-true n k h) in rw same
     by false h = take-all (min n k) l (omega (arith, leb-false n k h)) ∙ sym (take-all n l (omega (arith, leb-false n k h)))
 
--- ---- one way through range_from each
-module _ (m n : ℕ) (b a z : Triple) (s e : Stroke) where
-  pub from-reversed : b .last < b .first → Missing ≡ rangeFrom m n b a z s e
-  unfolding rangeFrom
-  from-reversed h = rw (lt-leb _ _ h)
-
-  no-end : (o : Option Stroke) → Missing ≡ spanned o none
-  unfolding spanned
-  no-end none = refl
-  no-end (some s) = refl
-
-  pub from-no-segment : b .first ≤ b .last → m ≤ b .last → Missing ≡ rangeFrom m n b a z s e
-  unfolding rangeFrom strokeIf
-  from-no-segment h k = rw (le-leb _ _ h, le-ltb _ _ k) (no-end _)
-
-  pub from-no-first : b .first ≤ b .last → b .last < m → n ≤ a .first → Missing ≡ rangeFrom m n b a z s e
-  unfolding rangeFrom strokeIf spanned
-  from-no-first h k l = let f : b .first < m = omega arith in rw (le-leb _ _ h, lt-ltb _ _ f, le-ltb _ _ l)
-
-  pub from-no-last : b .first ≤ b .last → b .last < m → n ≤ z .last → Missing ≡ rangeFrom m n b a z s e
-  unfolding rangeFrom strokeIf
-  from-no-last h k l = rw (le-leb _ _ h, lt-ltb _ _ k, le-ltb _ _ l) (no-end _)
-
-  pub from-found :
-      b .first ≤ b .last → b .last < m → a .first < n → z .last < n → spanned (some s) (some e) ≡ rangeFrom m n b a z s e
-  unfolding rangeFrom strokeIf
-  from-found h k l r = let f : b .first < m = omega arith in simp (le-leb _ _ h, lt-ltb _ _ f, lt-ltb _ _ k, lt-ltb _ _ l, lt-ltb _ _ r)
+-- no range without the last stroke
+pub no-end : (o : Option Stroke) → Missing ≡ spanned o none
+unfolding spanned
+no-end none = refl
+no-end (some s) = refl
 
 -- ---- records read at safe indices
 

@@ -1,7 +1,7 @@
 -- Laws of refusal 21: a test on what is left of a level, and the tests on a chart put together. Assumes nothing.
 use Prim.Native.Nat.{ℕ, _+_, _<_, _≤_}
 use mathlib.Core.Path.{_≡_, refl, sym, subst, _∙_}
-use mathlib.Core.Bool.{Bool, true, false, not, _&&_, _||_, or-true, or-false, or-assoc, false≢true}
+use mathlib.Core.Bool.{Bool, true, false, _&&_, _||_, or-true, or-false, or-assoc, false≢true}
 use mathlib.Core.List.{List}
 use lib.ListN.{length, getD, take, drop}
 use lib.Dec.{T, leb, ltb, leb→le}
@@ -37,20 +37,6 @@ module _
 
     pub met-more : (d : A) → i < n → (met || p (getD xs i d) || any p (drop (i + 1) (take n xs))) ≡ all
     met-more d h = or-assoc met (p (getD xs i d)) (any p (drop (i + 1) (take n xs))) ∙ rw (left-more n i xs d h long) at left
-
--- ---- one stroke
-module _ (s : Stroke) where
-  pub wrong-direction : ltb 1 (s .direction) ≡ true → true ≡ wrongStroke s
-  unfolding wrongStroke
-  wrong-direction e = rw e
-
-  pub wrong-end : ltb 1 (s .direction) ≡ false → isPrice (s .«start_price») ≡ true → not (isPrice (s .«end_price»)) ≡ wrongStroke s
-  unfolding wrongStroke badPrices
-  wrong-end e f = rw (e, f)
-
-  pub wrong-start : isPrice (s .«start_price») ≡ false → true ≡ wrongStroke s
-  unfolding wrongStroke badPrices
-  wrong-start e = simp (e, or-true)
 
 -- ---- one stroke, by tests that have no branch
 

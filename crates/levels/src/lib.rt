@@ -26,13 +26,7 @@ ghost use Rattle.levels.specs.Read.{SafeIndex, rangeFrom};
 fn wrong_stroke(s: Stroke) -> bool
     ensures { λ r. ⌜ r ≡ wrongStroke s ⌝ }
 {
-    if 1 < s.direction {
-        return true;
-    }
-    if price::is_price(s.start_price) {
-        return !price::is_price(s.end_price);
-    }
-    true
+    (1 < s.direction) | (!price::is_price(s.start_price) | !price::is_price(s.end_price))
 }
 
 // Whether the product of a stroke's prices shows that both are prices. It has no branch, so that a loop tests several strokes at a time.
@@ -69,16 +63,7 @@ pub fn wrong_triples(triples: [Triple; 256], n: u16) -> bool
 pub fn overfull(strokes: u16, segments: u16, bigs: u16, superiors: u16) -> bool
     ensures { λ r. ⌜ r ≡ (ltb 512 strokes || ltb 256 segments || ltb 256 bigs || ltb 256 superiors) ⌝ }
 {
-    if 512 < strokes {
-        return true;
-    }
-    if 256 < segments {
-        return true;
-    }
-    if 256 < bigs {
-        return true;
-    }
-    256 < superiors
+    (512 < strokes) | (256 < segments) | (256 < bigs) | (256 < superiors)
 }
 
 // Refusal 21 of a loaded chart. The strokes are tested where they lie, and one after the other only where the quick test does not show it.
