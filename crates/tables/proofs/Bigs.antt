@@ -6,61 +6,22 @@ use mathlib.Core.Path.{_≡_, ap, _∙_}
 use mathlib.Core.List.{List, [], _∷_, map, map-map}
 use lib.ListN.{length, take, getD, set}
 use lib.Seq.{take-suc, length-take-le}
-use lib.Ieee.{Float, nan}
-use borrow.Author.Tests.{eq-eqb, ne-eqb, lt-ltb, le-ltb}
+use lib.Ieee.{Float}
 use Rattle.chart.specs.declared.Stroke.{Stroke}
 use Rattle.chart.specs.declared.Triple.{Triple}
 use Rattle.chart.specs.declared.Span.{Span}
 use Rattle.chart.specs.declared.Range.{Range}
 use Rattle.chart.specs.declared.Range.the-variants.{Found, Missing}
 use Rattle.chart.specs.declared.EndPoint.{EndPoint}
-use Rattle.chart.specs.declared.EndPoint.the-variants.{At, Nowhere}
 use Rattle.chart.specs.declared.Chart.{Chart}
 use Rattle.chart.specs.Table.{pointOf}
 use Rattle.rules.specs.Records.{Levels, levelsOf}
 use Rattle.rules.specs.Ranges.{rangeOf, lastStroke}
 use Rattle.laws.proofs.Lists.{map-append}
-use Rattle.levels.specs.Read.{strokeIf}
 use Rattle.levels.proofs.Read.{no-triple}
 use Rattle.tables.specs.Rows.{Wide, rowsIn}
 use Rattle.tables.specs.Tables.{Big, bigOf, rangeIn, pointIn, bigIn, Bigs, Ranged, rangedIn, rangedOf, Members, pointIf, PutsBig}
 use Rattle.tables.proofs.Rows.{puts, rows-map, row-is}
-
--- ---- what is read
-
-module _ (row : List ℕ) (prices : List Float) where
-  pub range-none : getD row 1 0 ≡ 0 → Missing ≡ rangeIn row prices
-  unfolding rangeIn
-  range-none e = rw (eq-eqb _ _ e)
-
-  pub range-some :
-      (getD row 1 0 ≡ 0 → ⊥)
-      → Found (record { low = getD prices 0 nan; high = getD prices 1 nan; «start_bar» = getD row 2 0; «end_bar» = getD row 3 0 }) ≡ rangeIn row prices
-  unfolding rangeIn
-  range-some n = rw (ne-eqb _ _ n)
-
-  pub point-none : getD row 4 0 ≡ 0 → Nowhere ≡ pointIn row prices
-  unfolding pointIn
-  point-none e = rw (eq-eqb _ _ e)
-
-  pub point-some : (getD row 4 0 ≡ 0 → ⊥) → At (getD row 5 0) (getD prices 2 nan) ≡ pointIn row prices
-  unfolding pointIn
-  point-some n = rw (ne-eqb _ _ n)
-
--- ---- the end point of a big, read at safe indices
-
-module _ (m n i j : ℕ) (e : Stroke) where
-  pub end-no-segment : m ≤ i → pointIf 0 e ≡ pointOf (strokeIf m n i j e)
-  unfolding strokeIf pointIf
-  end-no-segment h = rw (le-ltb _ _ h)
-
-  pub end-no-stroke : i < m → n ≤ j → pointIf 0 e ≡ pointOf (strokeIf m n i j e)
-  unfolding strokeIf pointIf
-  end-no-stroke h k = rw (lt-ltb _ _ h, le-ltb _ _ k)
-
-  pub end-there : i < m → j < n → pointIf 1 e ≡ pointOf (strokeIf m n i j e)
-  unfolding strokeIf pointIf
-  end-there h k = rw (lt-ltb _ _ h, lt-ltb _ _ k)
 
 -- ---- what is put
 
