@@ -4,8 +4,8 @@ use native.Mathlib.Omega.{arith}
 use mathlib.Core.Path.{_≡_, refl, sym, _∙_}
 use mathlib.Core.Bool.{Bool, true, false, cond}
 use mathlib.Core.List.{List, [], _∷_, _++_, append-assoc}
-use lib.ListN.{length, getD, set, take, drop, length-set, take-append-drop}
-use lib.Seq.{take-take, take-set-lt, drop-set-lt}
+use lib.ListN.{length, getD, set, take, drop, length-set}
+use lib.Seq.{take-set-lt, drop-set-lt}
 use lib.Dec.{eqb, ltb}
 use lib.Ieee.{nan}
 use borrow.Author.Tests.{lt-ltb, le-ltb, eq-eqb, ne-eqb}
@@ -16,8 +16,7 @@ use Rattle.laws.specs.Lists.{Rising}
 use Rattle.laws.proofs.Lists.{cons, then}
 use Rattle.laws.proofs.Arrays.{left-more, left-none}
 use Rattle.laws.proofs.Earlier.{inserts-rising}
-use Rattle.mark_rows.proofs.Bars.{put-next, put-last}
-use Rattle.mark_rows.proofs.Filled.{one-taken}
+use Rattle.mark_rows.proofs.Bars.{one-taken, taken-whole, put-next, put-last}
 use Rattle.first_marks.specs.Placed.{barsOf}
 
 -- what an array's place outside holds
@@ -85,10 +84,8 @@ module _ (count k : ℕ) (rows : List FirstMark) (m : FirstMark) (goal : List Fi
     pub inserting-kept : m .«bar_index» ≡ x .«bar_index» → take count rows ≡ goal
     unfolding insertFirst
     inserting-kept e =
-        let whole : take k rows ++ drop k (take count rows) ≡ take count rows =
-        rw (← take-take k count rows (i .within)) (take-append-drop k (take count rows)) in
         let at-least : x .«bar_index» ≤ m .«bar_index» = omega arith in
-        sym whole ∙ (rw more (rw (insertFirst, le-ltb _ _ at-least, eq-eqb _ _ e) at here))
+        sym (taken-whole rows count k (i .within)) ∙ (rw more (rw (insertFirst, le-ltb _ _ at-least, eq-eqb _ _ e) at here))
 
     pub inserting-later : x .«bar_index» < m .«bar_index» → Inserting count goal (k + 1) rows m
     unfolding insertFirst

@@ -1,19 +1,28 @@
--- Rising bars: one more is put in. Assumes nothing.
+-- Rows that are taken, or moved by one; rising bars, into which one more is put. Assumes nothing.
 use Prim.Native.Nat.{ℕ, zero, suc, _+_, _-_, _<_, _≤_}
 use native.Mathlib.Omega.{arith}
-use mathlib.Core.Path.{_≡_, refl, sym, ap, _∙_}
-use mathlib.Core.Bool.{Bool, true, false, cond}
+use native.Mathlib.Numerals.{add-one}
+use mathlib.Core.Path.{_≡_, refl, sym}
+use mathlib.Core.Bool.{Bool, true, false}
 use mathlib.Core.List.{List, [], _∷_, _++_, append-assoc}
-use lib.ListN.{length, getD, set, take, drop}
-use lib.Seq.{take-set-lt, drop-set-lt, getD-take, take-take, length-take-le}
-use lib.Dec.{eqb, leb, ltb}
-use borrow.Author.Tests.{le-ltb, lt-ltb, lt-leb, leb-true, leb-false, ne-eqb, eq-eqb}
-use Rattle.rules.specs.Lists.{before}
+use lib.ListN.{length, getD, set, take, drop, take-append-drop}
+use lib.Seq.{take-suc, take-set-lt, drop-set-lt, getD-take, take-take, length-take-le}
+use lib.Dec.{ltb}
+use borrow.Author.Tests.{le-ltb, lt-ltb, ltb-true, ltb-false, ne-eqb, eq-eqb}
 use Rattle.rules.specs.Marks.{insertBar}
-use Rattle.laws.proofs.Lists.{All, nil, cons, then, all-map}
+use Rattle.laws.proofs.Lists.{All, nil, cons, then, all-append}
 use Rattle.laws.specs.Lists.{Rising}
 use Rattle.laws.proofs.Arrays.{left-more, left-none, one-more}
-use Rattle.mark_rows.proofs.Places.{place-from, all-here}
+use Rattle.mark_rows.proofs.Places.{all-here}
+
+-- ---- the first rows
+
+module _ {A : Type 0} (rows : List A) where
+  pub one-taken : (i : ℕ) (d : A) → i < length rows → take (i + 1) rows ≡ take i rows ++ getD rows i d ∷ []
+  one-taken i d h = rw (add-one i, take-suc rows i d h)
+
+  pub taken-whole : (n k : ℕ) → k ≤ n → take k rows ++ drop k (take n rows) ≡ take n rows
+  taken-whole n k h = rw (← take-take k n rows h) (take-append-drop k (take n rows))
 
 -- ---- the hint: of rising bars, all up to one that is below the bar are below it
 
@@ -36,52 +45,10 @@ module _ (bars : List ℕ) (n from bar : ℕ) (long : n ≤ length bars) (within
       let last : getD (take n bars) (from - 1) 0 < bar = rw (getD-take n bars (from - 1) 0 (omega arith)) e in
       rw (← take-take from n bars within, same) (below-up-to (take n bars) (from - 1) bar s (omega arith) last)
 
-  -- the search for the bar's place may start behind bars that are below it
-  pub from-there : All (λ (b : ℕ). b < bar) (take from bars) → from + length (before (leb bar) (drop from (take n bars))) ≡ length (before (leb bar) (take n bars))
-  from-there a =
-      let size : length (take n bars) ≡ n = length-take-le n bars long in
-      place-from (leb bar) from (take n bars) (omega arith) (rw (take-take from n bars within) (all-map (λ b h. lt-leb bar b h) a))
-
--- ---- the insertion
-
--- a bar goes before the first that is not below it, unless that is the bar itself
-insert-new :
-    (xs : List ℕ) (b : ℕ) → let i = length (before (leb b) xs) in
-    (i < length xs → getD xs i 0 ≡ b → ⊥) → insertBar xs b ≡ take i xs ++ b ∷ drop i xs
-unfolding insertBar
-insert-new [] b h = refl
-insert-new (x ∷ xs) b h = go (leb b x) refl h (insert-new xs b)
-  where
-    go :
-        (t : Bool) → leb b x ≡ t
-        → let i = length {A = ℕ} (elim t [ true ↦ [] | false ↦ x ∷ before (leb b) xs ]) in
-        (i < suc (length xs) → getD (x ∷ xs) i 0 ≡ b → ⊥)
-        → (let j = length (before (leb b) xs) in (j < length xs → getD xs j 0 ≡ b → ⊥) → insertBar xs b ≡ take j xs ++ b ∷ drop j xs)
-        → cond (ltb b x) (b ∷ x ∷ xs) (cond (eqb b x) (x ∷ xs) (x ∷ insertBar xs b)) ≡ take i (x ∷ xs) ++ b ∷ drop i (x ∷ xs)
-    go true e g r =
-        let other : x ≡ b → ⊥ = g (omega arith) in
-        rw (lt-ltb b x (omega (arith, leb-true b x e)))
-    go false e g r =
-        let below = leb-false b x e in
-        rw (le-ltb b x (omega arith), ne-eqb b x (λ w. omega arith)) (ap (λ (l : List ℕ). x ∷ l) (r (λ k. g (omega arith))))
-
-insert-there :
-    (xs : List ℕ) (b : ℕ) → let i = length (before (leb b) xs) in
-    i < length xs → getD xs i 0 ≡ b → insertBar xs b ≡ xs
-unfolding insertBar
-insert-there [] b h e = absurd (omega arith)
-insert-there (x ∷ xs) b h f = go (leb b x) refl h f (insert-there xs b)
-  where
-    go :
-        (t : Bool) → leb b x ≡ t
-        → let i = length {A = ℕ} (elim t [ true ↦ [] | false ↦ x ∷ before (leb b) xs ]) in
-        i < suc (length xs) → getD (x ∷ xs) i 0 ≡ b
-        → (let j = length (before (leb b) xs) in j < length xs → getD xs j 0 ≡ b → insertBar xs b ≡ xs)
-        → cond (ltb b x) (b ∷ x ∷ xs) (cond (eqb b x) (x ∷ xs) (x ∷ insertBar xs b)) ≡ x ∷ xs
-    go true e g k r = rw (le-ltb b x (omega arith), eq-eqb b x (sym k))
-    go false e g k r =
-        let below = leb-false b x e in
-        rw (le-ltb b x (omega arith), ne-eqb b x (λ w. omega arith)) (ap (λ (l : List ℕ). x ∷ l) (r (omega arith) k))
+pub below-next :
+    (bars : List ℕ) (i bar : ℕ) → i < length bars → All (λ (b : ℕ). b < bar) (take i bars) → getD bars i 0 < bar
+    → All (λ (b : ℕ). b < bar) (take (i + 1) bars)
+below-next bars i bar h a e = rw (one-taken bars i 0 h) (all-append a (cons e nil))
 
 -- ---- rows from a place on go one further: `held` is the one that goes to place i
 
@@ -103,19 +70,36 @@ module _
         let same : i ≡ n = omega arith in
         rw (one-more rows n held long) (rw (left-none n i rows h (omega arith), same) at left)
 
--- ---- the insertion in place: at is the place of the first of n that is not below the bar
+-- ---- the insertion
 
-module _ (bars : List ℕ) (n at bar : ℕ) (long : n < length bars) (within : at ≤ n) (found : at ≡ length (before (leb bar) (take n bars))) where
-  size : length (take n bars) ≡ n
-  size = length-take-le n bars (omega arith)
+-- a bar goes behind those that are below it
+insert-behind : (xs ys : List ℕ) (b : ℕ) → All (λ (x : ℕ). x < b) xs → insertBar (xs ++ ys) b ≡ xs ++ insertBar ys b
+unfolding insertBar
+insert-behind [] ys b nil = refl
+insert-behind (x ∷ xs) ys b (cons h a) =
+    let other : b ≡ x → ⊥ = λ e. omega arith in
+    rw (le-ltb b x (omega arith), ne-eqb b x other, insert-behind xs ys b a)
+
+-- in place: of n bars those before place `at` are below the bar
+module _ (bars : List ℕ) (n at bar : ℕ) (long : n < length bars) (within : at ≤ n) (below : All (λ (b : ℕ). b < bar) (take at bars)) where
+  behind : insertBar (take n bars) bar ≡ take at bars ++ insertBar (drop at (take n bars)) bar
+  behind = rw (taken-whole bars n at within) at (insert-behind (take at bars) (drop at (take n bars)) bar below)
 
   pub inserted-none : at < n → getD bars at 0 ≡ bar → take n bars ≡ insertBar (take n bars) bar
+  unfolding insertBar
   inserted-none h e =
-      let here : getD (take n bars) at 0 ≡ bar = getD-take n bars at 0 h ∙ e in
-      sym (insert-there (take n bars) bar (omega (arith, size)) (rw found at here))
+      let same : bar ≡ getD bars at 0 = sym e in
+      rw (behind, left-more n at bars 0 h (omega arith), le-ltb bar (getD bars at 0) (omega arith), eq-eqb bar (getD bars at 0) same, ← left-more n at bars 0 h (omega arith))
+      (sym (taken-whole bars n at within))
 
-  pub inserted-new : (at < n → getD bars at 0 ≡ bar → ⊥) → (l : List ℕ) → take (n + 1) l ≡ take at bars ++ bar ∷ drop at (take n bars) → take (n + 1) l ≡ insertBar (take n bars) bar
-  inserted-new h l e =
-      let other : at < length (take n bars) → getD (take n bars) at 0 ≡ bar → ⊥ =
-      λ k f. let near : at < n = omega (arith, size) in h near (sym (getD-take n bars at 0 near) ∙ f) in
-      e ∙ (rw (← take-take at n bars (omega (arith, size, within)), found) (sym (insert-new (take n bars) bar (rw found at other))))
+  pub inserted-new :
+      (at < n → bar ≤ getD bars at 0) → (at < n → getD bars at 0 ≡ bar → ⊥) → take at bars ++ bar ∷ drop at (take n bars) ≡ insertBar (take n bars) bar
+  unfolding insertBar
+  inserted-new up other = rw behind (by (ltb at n) refl)
+    where
+      by : (t : Bool) → ltb at n ≡ t → take at bars ++ bar ∷ drop at (take n bars) ≡ take at bars ++ insertBar (drop at (take n bars)) bar
+      by true w =
+          let near = ltb-true at n w in
+          let above : bar < getD bars at 0 = omega (arith, up near, other near) in
+          rw (left-more n at bars 0 near (omega arith), lt-ltb bar (getD bars at 0) above)
+      by false w = rw (left-none n at bars (ltb-false at n w) (omega arith))

@@ -1,11 +1,10 @@
 -- Rows that are given out, and the row of a third mark. Assumes nothing.
 use Prim.Native.Nat.{ℕ, _+_, _<_, _≤_}
 use native.Mathlib.Omega.{arith}
-use native.Mathlib.Numerals.{add-one}
 use mathlib.Core.Path.{_≡_, sym, ap, _∙_}
-use mathlib.Core.List.{List, [], _∷_, _++_}
+use mathlib.Core.List.{List}
 use lib.ListN.{length, getD, set, take}
-use lib.Seq.{length-take-le, take-suc}
+use lib.Seq.{length-take-le}
 use lib.Ieee.{Float}
 use Rattle.chart.specs.declared.ThirdMark.{ThirdMark}
 use Rattle.chart.specs.declared.NMark.{NMark}
@@ -16,9 +15,7 @@ use Rattle.laws.proofs.Answers.{given-rows}
 use Rattle.laws.proofs.Arrays.{one-more}
 use Rattle.mark_rows.specs.Rows.{barIn, sideIn, rowKey, markIn, marksIn}
 use Rattle.mark_rows.proofs.Gathered.{key-bar, key-side, marks-snoc}
-
-pub one-taken : {A : Type 0} (xs : List A) (i : ℕ) (d : A) → i < length xs → take (i + 1) xs ≡ take i xs ++ getD xs i d ∷ []
-one-taken xs i d h = rw (add-one i, take-suc xs i d h)
+use Rattle.mark_rows.proofs.Bars.{one-taken}
 
 -- ---- rows given out
 

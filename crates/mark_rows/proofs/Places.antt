@@ -29,12 +29,6 @@ module _ {A : Type 0} (p : A → Bool) where
       pub place-pass : p (getD xs i d) ≡ false → i + 1 + length (before p (drop (i + 1) (take n xs))) ≡ all
       place-pass e = let f = rw e at here in omega arith
 
-  -- the search may start behind elements that do not pass
-  pub place-from : (k : ℕ) (xs : List A) → k ≤ length xs → All (λ (x : A). p x ≡ false) (take k xs) → k + length (before p (drop k xs)) ≡ length (before p xs)
-  place-from zero xs h a = omega arith
-  place-from (suc k) [] h a = absurd (omega arith)
-  place-from (suc k) (x ∷ xs) h (cons e a) = let r = place-from k xs (omega arith) a in rw (before, e) (omega arith)
-
   -- it lies behind all elements where none passes, and else it has one that passes
   pub none-passes : (xs : List A) → length xs ≤ length (before p xs) → any p xs ≡ false
   none-passes [] h = refl

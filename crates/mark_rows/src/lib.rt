@@ -5,8 +5,8 @@ ghost use mathlib.Core.Path.{_≡_};
 ghost use mathlib.Core.Bool.{cond};
 ghost use mathlib.Core.List.{List, _∷_, _++_, List·Memᴰ};
 ghost use Prim.Native.Nat.{ℕ, _+_, _≤_, _<_};
-ghost use lib.ListN.{length, take, drop};
-ghost use lib.Dec.{eqb, leb, ltb};
+ghost use lib.ListN.{length, getD, take, drop};
+ghost use lib.Dec.{eqb, ltb};
 ghost use Rattle.rules.specs.Answer.{rowsAnswer, given};
 ghost use Rattle.rules.specs.Lists.{before};
 ghost use Rattle.rules.specs.Marks.{priceAt, insertBar};
@@ -138,7 +138,8 @@ fn start_at(bars: &[u32], n: usize, from: usize, bar: u32) -> usize
 fn bar_place(bars: &[u32], n: usize, from: usize, bar: u32) -> usize
     requires { ⌜ (n ≤ length (now bars)) × (from ≤ n) × All (λ (b : ℕ). b < bar) (take from (now bars)) ⌝ }
     ensures { λ r. ⌜ r ≤ n ⌝ }
-    ensures { λ r. ⌜ r ≡ length (before (leb bar) (take n (now (bars .entry)))) ⌝ }
+    ensures { λ r. ⌜ All (λ (b : ℕ). b < bar) (take r (now (bars .entry))) ⌝ }
+    ensures { λ r. ⌜ (r < n → bar ≤ getD (now (bars .entry)) r 0) ⌝ }
 {
     let mut i = from;
     while i < n {

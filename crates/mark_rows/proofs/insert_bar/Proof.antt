@@ -1,7 +1,7 @@
 -- `mark_rows::insert_bar` meets its contract. Assumes nothing.
 use Prim.Native.Nat.{_<_, _≤_}
 use native.Mathlib.Omega.{arith}
-use mathlib.Core.Path.{_≡_, refl}
+use mathlib.Core.Path.{_≡_, refl, _∙_}
 use mathlib.Core.Logic.{⊎-elim}
 use lib.ListN.{getD, length}
 use borrow.Author.Needs.{needs}
@@ -45,7 +45,7 @@ returns c =
     let near = c .before .before in
     let found = near .before in
     let start = found .before .before .before .before .before in (
-      inserted-none _ _ _ _ (start .pre .0) (found .bar-place .ensures .0) (found .bar-place .ensures .1) (near .if1 .taken) (c .if2 .taken),
+      inserted-none _ _ _ _ (start .pre .0) (found .bar-place .ensures .0) (found .bar-place .ensures .1 .0) (near .if1 .taken) (c .if2 .taken),
       (refl, (omega arith, omega arith, omega arith)),
     )
 
@@ -64,7 +64,8 @@ returns-2 c =
     let met = put .before .before in
     let found = met .before in
     let start = found .before .before .before .before .before in (
-      inserted-new _ _ _ _ (start .pre .0) (found .bar-place .ensures .0) (found .bar-place .ensures .1) (other met) _ (put .put-in .ensures .0),
+      put .put-in .ensures .0
+          ∙ inserted-new _ _ _ _ (start .pre .0) (found .bar-place .ensures .0) (found .bar-place .ensures .1 .0) (found .bar-place .ensures .1 .1) (other met),
       (put .put-in .ensures .1, (omega arith, omega arith, omega arith)),
     )
 
