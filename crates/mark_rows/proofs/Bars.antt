@@ -89,8 +89,8 @@ module _ (bars : List ℕ) (n at bar : ℕ) (long : n < length bars) (within : a
   unfolding insertBar
   inserted-none h e =
       let same : bar ≡ getD bars at 0 = sym e in
-      rw (behind, left-more n at bars 0 h (omega arith), le-ltb bar (getD bars at 0) (omega arith), eq-eqb bar (getD bars at 0) same, ← left-more n at bars 0 h (omega arith))
-      (sym (taken-whole bars n at within))
+      let next = left-more n at bars 0 h (omega arith) in
+      rw (behind, next, le-ltb bar (getD bars at 0) (omega arith), eq-eqb bar (getD bars at 0) same, ← next) (sym (taken-whole bars n at within))
 
   pub inserted-new :
       (at < n → bar ≤ getD bars at 0) → (at < n → getD bars at 0 ≡ bar → ⊥) → take at bars ++ bar ∷ drop at (take n bars) ≡ insertBar (take n bars) bar
