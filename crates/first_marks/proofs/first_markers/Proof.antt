@@ -12,9 +12,6 @@ use Rattle.first_marks.proofs.first_markers.Tie as tie
 long : (c : tie.Else1) → length (c .before .before .classify-sup-segments .result .rows) ≡ 256
 long c = search (needs, length-via)
 
-classify-sup-segments-requires : tie.Need-classify-sup-segments-requires
-classify-sup-segments-requires c κs = search needs
-
 returns : tie.Need-returns
 returns c =
     let at = c .before .before in
@@ -32,5 +29,4 @@ returns-2 c =
     c .marks-of .ensures ∙ marks-given _ _ _ _ _ (at .before .before .classify-sup-segments .ensures) (at .if1 .left) _
 
 pub first-markers-spec : {M : Type 1} → statement M
-first-markers-spec =
-    tie.close (tie.spec classify-sup-segments-requires returns marks-of-requires returns-2)
+first-markers-spec = tie.close (tie.spec (search needs) returns marks-of-requires returns-2)

@@ -18,47 +18,17 @@ abbrev μ-loop : tie.MeasureT-loop
 loop-holds : tie.Need-loop-holds Inv-loop μ-loop
 loop-holds c = record { long = omega arith; within = omega arith; left = refl; rises = c .pre .1 }
 
-cast-row : tie.Need-cast-row Inv-loop μ-loop
-cast-row c = search needs
-
-mul-row : tie.Need-mul-row Inv-loop μ-loop
-mul-row c = search needs
-
-array-copy-out-row : tie.Need-array-copy-out-row Inv-loop μ-loop
-array-copy-out-row c = search needs
-
 returns : tie.Need-returns Inv-loop μ-loop
 returns c =
     let in-loop = c .before .before .before .before in
     let head = in-loop .before in
     (omega arith, inserting-kept _ (head .loop .k) _ _ _ (head .before .pre .0) (head .loop .inv) (in-loop .loop-test .taken) (c .if1 .taken))
 
-add-k : tie.Need-add-k Inv-loop μ-loop
-add-k c = search needs
-
-loop-less : tie.Need-loop-less Inv-loop μ-loop
-loop-less c = search needs
-
 loop-again : tie.Need-loop-again Inv-loop μ-loop
 loop-again c =
     let in-loop = c .before .before .before .before .before .before .before in
     let head = in-loop .before in
     inserting-later _ (head .loop .k) _ _ _ (head .before .pre .0) (head .loop .inv) (in-loop .loop-test .taken) (c .if2 .taken)
-
-cast-next : tie.Need-cast-next Inv-loop μ-loop
-cast-next c = search needs
-
-mul-next : tie.Need-mul-next Inv-loop μ-loop
-mul-next c = search needs
-
-array-set-from-next : tie.Need-array-set-from-next Inv-loop μ-loop
-array-set-from-next c = search needs
-
-add-k-2 : tie.Need-add-k-2 Inv-loop μ-loop
-add-k-2 c = search needs
-
-loop-less-2 : tie.Need-loop-less-2 Inv-loop μ-loop
-loop-less-2 c = search needs
 
 loop-again-2 : tie.Need-loop-again-2 Inv-loop μ-loop
 loop-again-2 c =
@@ -68,15 +38,6 @@ loop-again-2 c =
     inserting-here _ (head .loop .k) _ _ _ (head .before .pre .0) (head .loop .inv) (in-loop .loop-test .taken)
     (omega (arith, at1 .if1 .left, c .if2 .left))
 
-mul-next-2 : tie.Need-mul-next-2 Inv-loop μ-loop
-mul-next-2 c = search needs
-
-array-set-from-next-2 : tie.Need-array-set-from-next-2 Inv-loop μ-loop
-array-set-from-next-2 c = search needs
-
-add-t21 : tie.Need-add-t21 Inv-loop μ-loop
-add-t21 c = search needs
-
 returns-2 : tie.Need-returns-2 Inv-loop μ-loop
 returns-2 c =
     let head = c .before in
@@ -85,24 +46,5 @@ returns-2 c =
 pub inserted-spec : {M : Type 1} → statement M
 inserted-spec =
     tie.close
-    (tie.spec
-    Inv-loop
-    μ-loop
-    loop-holds
-    cast-row
-    mul-row
-    array-copy-out-row
-    returns
-    add-k
-    loop-less
-    loop-again
-    cast-next
-    mul-next
-    array-set-from-next
-    add-k-2
-    loop-less-2
-    loop-again-2
-    mul-next-2
-    array-set-from-next-2
-    add-t21
-    returns-2)
+    (tie.spec Inv-loop μ-loop loop-holds (search needs) (search needs) (search needs) returns (search needs) (search needs) loop-again (search needs)
+    (search needs) (search needs) (search needs) (search needs) loop-again-2 (search needs) (search needs) (search needs) returns-2)

@@ -99,39 +99,6 @@ rows-long c = search (needs, length-via, c .inserted .ok)
 loop-holds : tie.Need-loop-holds Inv-loop μ-loop
 loop-holds c = (omega arith, omega arith, refl, none-left, refl)
 
-add-loop : tie.Need-add-loop Inv-loop μ-loop
-add-loop c = search needs
-
-cast-q : tie.Need-cast-q Inv-loop μ-loop
-cast-q c = search needs
-
-mul-q : tie.Need-mul-q Inv-loop μ-loop
-mul-q c = search needs
-
-array-copy-out-q : tie.Need-array-copy-out-q Inv-loop μ-loop
-array-copy-out-q c = search needs
-
-add-next : tie.Need-add-next Inv-loop μ-loop
-add-next c = search needs
-
-cast-next : tie.Need-cast-next Inv-loop μ-loop
-cast-next c = search needs
-
-mul-next : tie.Need-mul-next Inv-loop μ-loop
-mul-next c = search needs
-
-array-copy-out-next : tie.Need-array-copy-out-next Inv-loop μ-loop
-array-copy-out-next c = search needs
-
-fitting-requires : tie.Need-fitting-requires Inv-loop μ-loop
-fitting-requires c κs = search needs
-
-add-i : tie.Need-add-i Inv-loop μ-loop
-add-i c = search needs
-
-loop-less : tie.Need-loop-less Inv-loop μ-loop
-loop-less c = search needs
-
 loop-again : tie.Need-loop-again Inv-loop μ-loop
 loop-again c =
     let at = c .before .before .before .before in
@@ -144,68 +111,23 @@ loop-again c =
           (first-unfit _ _ _ _ (placed at) (placed-next at) (sym (c .before .fitting .ensures) ∙ not-true _ (c .if1 .taken))),
     )
 
-cast-opening : tie.Need-cast-opening Inv-loop μ-loop
-cast-opening c = search needs
-
-mul-opening : tie.Need-mul-opening Inv-loop μ-loop
-mul-opening c = search needs
-
 element-copy-out-opening : tie.Need-element-copy-out-opening Inv-loop μ-loop
 element-copy-out-opening c = let at = turn (c .before) in omega (arith, begins at .bigs, bigs-long (start at))
-
-cast-a : tie.Need-cast-a Inv-loop μ-loop
-cast-a c = search needs
-
-mul-a : tie.Need-mul-a Inv-loop μ-loop
-mul-a c = search needs
 
 element-copy-out-a : tie.Need-element-copy-out-a Inv-loop μ-loop
 element-copy-out-a c = let at = turn (from-a c) in omega (arith, begins at .segments, segments-long (start at))
 
-cast-s : tie.Need-cast-s Inv-loop μ-loop
-cast-s c = search needs
-
-mul-s : tie.Need-mul-s Inv-loop μ-loop
-mul-s c = search needs
-
 element-copy-out-s : tie.Need-element-copy-out-s Inv-loop μ-loop
 element-copy-out-s c = let at = turn (from-s c) in omega (arith, begins at .strokes, strokes-long (start at))
-
-cast-closing : tie.Need-cast-closing Inv-loop μ-loop
-cast-closing c = search needs
-
-mul-closing : tie.Need-mul-closing Inv-loop μ-loop
-mul-closing c = search needs
 
 element-copy-out-closing : tie.Need-element-copy-out-closing Inv-loop μ-loop
 element-copy-out-closing c = let at = turn (from-closing c) in omega (arith, ends at .bigs, bigs-long (start at))
 
-cast-z : tie.Need-cast-z Inv-loop μ-loop
-cast-z c = search needs
-
-mul-z : tie.Need-mul-z Inv-loop μ-loop
-mul-z c = search needs
-
 element-copy-out-z : tie.Need-element-copy-out-z Inv-loop μ-loop
 element-copy-out-z c = let at = turn (from-z c) in omega (arith, ends at .segments, segments-long (start at))
 
-cast-e : tie.Need-cast-e Inv-loop μ-loop
-cast-e c = search needs
-
-mul-e : tie.Need-mul-e Inv-loop μ-loop
-mul-e c = search needs
-
 element-copy-out-e : tie.Need-element-copy-out-e Inv-loop μ-loop
 element-copy-out-e c = let at = turn (from-e c) in omega (arith, ends at .strokes, strokes-long (start at))
-
-beyond-requires : tie.Need-beyond-requires Inv-loop μ-loop
-beyond-requires c κs = search needs
-
-add-i-2 : tie.Need-add-i-2 Inv-loop μ-loop
-add-i-2 c = search needs
-
-loop-less-2 : tie.Need-loop-less-2 Inv-loop μ-loop
-loop-less-2 c = search needs
 
 loop-again-2 : tie.Need-loop-again-2 Inv-loop μ-loop
 loop-again-2 c =
@@ -226,12 +148,6 @@ inserted-requires c κs =
     let at = turn (compared (c .before)) in
     let inv = at .before .loop .inv in
     (omega (arith, inv .1, at .loop-test .taken, start at .pre .0), inv .3)
-
-add-i-3 : tie.Need-add-i-3 Inv-loop μ-loop
-add-i-3 c = search needs
-
-loop-less-3 : tie.Need-loop-less-3 Inv-loop μ-loop
-loop-less-3 c = search needs
 
 loop-again-3 : tie.Need-loop-again-3 Inv-loop μ-loop
 loop-again-3 c =
@@ -260,46 +176,8 @@ returns c =
 pub marks-of-spec : {M : Type 1} → statement M
 marks-of-spec =
     tie.close
-    (tie.spec
-    Inv-loop
-    μ-loop
-    loop-holds
-    add-loop
-    cast-q
-    mul-q
-    array-copy-out-q
-    add-next
-    cast-next
-    mul-next
-    array-copy-out-next
-    fitting-requires
-    add-i
-    loop-less
-    loop-again
-    cast-opening
-    mul-opening
-    element-copy-out-opening
-    cast-a
-    mul-a
-    element-copy-out-a
-    cast-s
-    mul-s
-    element-copy-out-s
-    cast-closing
-    mul-closing
-    element-copy-out-closing
-    cast-z
-    mul-z
-    element-copy-out-z
-    cast-e
-    mul-e
-    element-copy-out-e
-    beyond-requires
-    add-i-2
-    loop-less-2
-    loop-again-2
-    inserted-requires
-    add-i-3
-    loop-less-3
-    loop-again-3
-    returns)
+    (tie.spec Inv-loop μ-loop loop-holds (search needs) (search needs) (search needs) (search needs) (search needs) (search needs) (search needs)
+    (search needs) (search needs) (search needs) (search needs) loop-again (search needs) (search needs) element-copy-out-opening (search needs)
+    (search needs) element-copy-out-a (search needs) (search needs) element-copy-out-s (search needs) (search needs) element-copy-out-closing
+    (search needs) (search needs) element-copy-out-z (search needs) (search needs) element-copy-out-e (search needs) (search needs) (search needs)
+    loop-again-2 inserted-requires (search needs) (search needs) loop-again-3 returns)
