@@ -6,25 +6,16 @@ use borrow.Author.Needs.{needs}
 use Rattle.classes.proofs.answer.Statement.{statement}
 use Rattle.classes.proofs.answer.Tie as tie
 
-refused-requires : tie.Need-refused-requires
-refused-requires c κs = search needs
-
 returns : tie.Need-returns
 returns c f ts size g = ends-byte f ts _ _ size _ (c .before .if1 .taken) (c .refused .ensures)
 
 returns-2 : tie.Need-returns-2
 returns-2 c f ts size g = ends-few f ts _ _ size _ (c .before .if1 .left) (c .if2 .taken) (given-rows _ 0 (omega arith))
 
-refused-requires-2 : tie.Need-refused-requires-2
-refused-requires-2 c κs = search needs
-
 returns-3 : tie.Need-returns-3
 returns-3 c f ts size g =
     let at2 = c .before .before in
     ends-lacking f ts _ _ size _ (at2 .before .if1 .left) (at2 .if2 .left) _ _ g (c .before .if3 .taken) (c .refused2 .ensures)
-
-classes-of-requires : tie.Need-classes-of-requires
-classes-of-requires c κs = search needs
 
 returns-4 : tie.Need-returns-4
 returns-4 c f ts size g =
@@ -33,13 +24,4 @@ returns-4 c f ts size g =
     ends-all f ts _ _ size _ (at2 .before .if1 .left) (at2 .if2 .left) _ _ g (at3 .if3 .left) (c .classes-of .ensures)
 
 pub answer-spec : {M : Type 1} → statement M
-answer-spec =
-    tie.close
-    (tie.spec
-    refused-requires
-    returns
-    returns-2
-    refused-requires-2
-    returns-3
-    classes-of-requires
-    returns-4)
+answer-spec = tie.close (tie.spec (search needs) returns returns-2 (search needs) returns-3 (search needs) returns-4)

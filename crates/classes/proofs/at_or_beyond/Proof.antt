@@ -4,14 +4,8 @@ use borrow.Author.Needs.{needs}
 use Rattle.classes.proofs.at_or_beyond.Statement.{statement}
 use Rattle.classes.proofs.at_or_beyond.Tie as tie
 
-by-direction-requires : tie.Need-by-direction-requires
-by-direction-requires c κs = search needs
-
-by-direction-requires-2 : tie.Need-by-direction-requires-2
-by-direction-requires-2 c κs = search needs
-
 returns : tie.Need-returns
 returns c = compared-at-or-beyond _ _ _ _ _ (c .before .by-direction .ensures) (c .by-direction2 .ensures)
 
 pub at-or-beyond-spec : {M : Type 1} → statement M
-at-or-beyond-spec = tie.close (tie.spec by-direction-requires by-direction-requires-2 returns)
+at-or-beyond-spec = tie.close (tie.spec (search needs) (search needs) returns)

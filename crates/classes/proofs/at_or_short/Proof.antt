@@ -4,12 +4,9 @@ use Rattle.rules.specs.Classes.{atOrBeyond, atOrShort}
 use Rattle.classes.proofs.at_or_short.Statement.{statement}
 use Rattle.classes.proofs.at_or_short.Tie as tie
 
-at-or-beyond-requires : tie.Need-at-or-beyond-requires
-at-or-beyond-requires c κs = search needs
-
 returns : tie.Need-returns
 unfolding atOrBeyond atOrShort
 returns c = c .at-or-beyond .ensures
 
 pub at-or-short-spec : {M : Type 1} → statement M
-at-or-short-spec = tie.close (tie.spec at-or-beyond-requires returns)
+at-or-short-spec = tie.close (tie.spec (search needs) returns)

@@ -24,39 +24,18 @@ abbrev μ-loop : tie.MeasureT-loop
 abbrev items : tie.At-loop Inv-loop μ-loop → List Item
 items c = let a = c .before .before .args in itemsOf (a .n) (now (a .directions)) (now (a .starts)) (now (a .ends))
 
-item-at-requires : tie.Need-item-at-requires Inv-loop μ-loop
-item-at-requires c κs = search needs
-
-add-j : tie.Need-add-j Inv-loop μ-loop
-add-j c = search needs
-
 loop-holds : tie.Need-loop-holds Inv-loop μ-loop
 loop-holds c =
     (omega arith, second-begins _ (c .before .args .i) _ (item-in _ _ _ _ _ _ (omega arith) (c .item-at .ensures)))
-
-item-at-requires-2 : tie.Need-item-at-requires-2 Inv-loop μ-loop
-item-at-requires-2 c κs = search needs
 
 -- the next item
 next : (c : tie.After-item-at2 Inv-loop μ-loop) → getElem? (items (c .before .before)) (c .before .before .loop .j) ≡ some (itemOf (c .item-at2 .result))
 next c = item-in _ _ _ _ _ _ (c .before .loop-test .taken) (c .item-at2 .ensures)
 
-add-j-2 : tie.Need-add-j-2 Inv-loop μ-loop
-add-j-2 c = search needs
-
-loop-less : tie.Need-loop-less Inv-loop μ-loop
-loop-less c = search needs
-
 loop-again : tie.Need-loop-again Inv-loop μ-loop
 loop-again c =
     let at-item = c .before .before .before in
     (omega arith, second-other _ _ _ _ _ (at-item .before .before .loop .inv .1) _ (next at-item) (c .if1 .taken))
-
-at-or-short-requires : tie.Need-at-or-short-requires Inv-loop μ-loop
-at-or-short-requires c κs = search needs
-
-beyond-requires : tie.Need-beyond-requires Inv-loop μ-loop
-beyond-requires c κs = search needs
 
 returns : tie.Need-returns Inv-loop μ-loop
 returns c =
@@ -80,12 +59,6 @@ returns-2 c =
       among = at-item .before .loop-test .taken;
     }
 
-add-j-3 : tie.Need-add-j-3 Inv-loop μ-loop
-add-j-3 c = search needs
-
-loop-less-2 : tie.Need-loop-less-2 Inv-loop μ-loop
-loop-less-2 c = search needs
-
 loop-again-2 : tie.Need-loop-again-2 Inv-loop μ-loop
 loop-again-2 c =
     let at-beyond = c .before .before in
@@ -107,21 +80,5 @@ returns-3 c =
 pub case2-spec : {M : Type 1} → statement M
 case2-spec =
     tie.close
-    (tie.spec
-    Inv-loop
-    μ-loop
-    item-at-requires
-    add-j
-    loop-holds
-    item-at-requires-2
-    add-j-2
-    loop-less
-    loop-again
-    at-or-short-requires
-    beyond-requires
-    returns
-    returns-2
-    add-j-3
-    loop-less-2
-    loop-again-2
-    returns-3)
+    (tie.spec Inv-loop μ-loop (search needs) (search needs) loop-holds (search needs) (search needs) (search needs) loop-again (search needs)
+    (search needs) returns returns-2 (search needs) (search needs) loop-again-2 returns-3)

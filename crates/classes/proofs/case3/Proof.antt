@@ -4,24 +4,14 @@ use borrow.Author.Needs.{needs}
 use Rattle.classes.proofs.case3.Statement.{statement}
 use Rattle.classes.proofs.case3.Tie as tie
 
-enum-known-last : tie.Need-enum-known-last
-enum-known-last c = search needs
-
-enum-told : tie.Need-enum-told
-enum-told c = search needs
-
 returns : tie.Need-returns
 returns c = third-first _ _ (c .enum-told .given .1)
 
 returns-2 : tie.Need-returns-2
 returns-2 c = third-same _ _ _ (c .before .before .before .before .last .given .1) (c .if1 .taken)
 
-beyond-requires : tie.Need-beyond-requires
-beyond-requires c κs = search needs
-
 returns-3 : tie.Need-returns-3
 returns-3 c = third-other _ _ _ _ (c .before .before .before .before .before .last .given .1) (c .before .if1 .left) (c .beyond .ensures)
 
 pub case3-spec : {M : Type 1} → statement M
-case3-spec =
-    tie.close (tie.spec enum-known-last enum-told returns returns-2 beyond-requires returns-3)
+case3-spec = tie.close (tie.spec (search needs) (search needs) returns returns-2 (search needs) returns-3)

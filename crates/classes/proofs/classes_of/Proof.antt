@@ -6,16 +6,10 @@ use borrow.Author.Needs.{needs}
 use Rattle.classes.proofs.classes_of.Statement.{statement}
 use Rattle.classes.proofs.classes_of.Tie as tie
 
-walk-requires : tie.Need-walk-requires
-walk-requires c κs = search needs
-
-extend-all-requires : tie.Need-extend-all-requires
-extend-all-requires c κs = search needs
-
 returns : tie.Need-returns
 returns c =
     let at-walk = c .before .before in
     classes-given _ _ _ _ (rw (items-length _ _ _ _) (at-walk .before .pre .0)) (at-walk .walk .ensures) (c .before .extend-all .ensures) (search (needs, length-via))
 
 pub classes-of-spec : {M : Type 1} → statement M
-classes-of-spec = tie.close (tie.spec walk-requires extend-all-requires returns)
+classes-of-spec = tie.close (tie.spec (search needs) (search needs) returns)

@@ -19,12 +19,6 @@ few c = let n = counted _ (sym (c .before .bad-chart .ensures) ∙ c .if1 .left)
 long : (c : tie.Start) → Long (c .args .chart)
 long c = (search (needs, length-via), search (needs, length-via), search (needs, length-via))
 
-bad-chart-requires : tie.Need-bad-chart-requires
-bad-chart-requires c κs = search needs
-
-refused-requires : tie.Need-refused-requires
-refused-requires c κs = search needs
-
 returns : tie.Need-returns
 unfolding segmentClassesCall
 returns c = c .refused .ensures ∙ sym (on-bad _ _ (sym (c .before .before .bad-chart .ensures) ∙ c .before .if1 .taken))
@@ -46,10 +40,4 @@ returns-2 c =
 pub classify-big-segments-spec : {M : Type 1} → statement M
 classify-big-segments-spec =
     tie.close
-    (tie.spec
-    bad-chart-requires
-    refused-requires
-    returns
-    items-of-requires
-    answer-requires
-    returns-2)
+    (tie.spec (search needs) (search needs) returns items-of-requires answer-requires returns-2)

@@ -40,24 +40,12 @@ reach-length c =
 returns : tie.Need-returns Inv-loop μ-loop
 returns c = extend-none _ _ _ _ (items-length _ _ _ _) (c .if1 .taken)
 
-at-most-requires : tie.Need-at-most-requires Inv-loop μ-loop
-at-most-requires c κs = search needs
-
-item-at-requires : tie.Need-item-at-requires Inv-loop μ-loop
-item-at-requires c κs = search needs
-
-add-at : tie.Need-add-at Inv-loop μ-loop
-add-at c = search needs
-
 loop-holds : tie.Need-loop-holds Inv-loop μ-loop
 loop-holds c =
     let at-if = c .before .before in (
       omega (arith, c .before .at-most .ensures),
       extend-begins _ _ _ _ (items-length _ _ _ _) _ _ (item-in _ _ _ _ _ _ (at-if .if1 .left) (c .item-at .ensures)) (c .before .at-most .ensures),
     )
-
-item-at-requires-2 : tie.Need-item-at-requires-2 Inv-loop μ-loop
-item-at-requires-2 c κs = search needs
 
 -- the next item
 next : (c : tie.After-item-at2 Inv-loop μ-loop) → getElem? (reach (c .before .before)) (c .before .before .loop .at) ≡ some (itemOf (c .item-at2 .result))
@@ -66,15 +54,6 @@ next c =
     at-take _ _ _ (c .before .loop-test .taken)
     ∙ item-in _ _ _ _ _ _ (omega (arith, head .loop .inv .0, c .before .loop-test .taken)) (c .item-at2 .ensures)
 
-reaches-requires : tie.Need-reaches-requires Inv-loop μ-loop
-reaches-requires c κs = search needs
-
-add-at-2 : tie.Need-add-at-2 Inv-loop μ-loop
-add-at-2 c = search needs
-
-loop-less : tie.Need-loop-less Inv-loop μ-loop
-loop-less c = search needs
-
 loop-again : tie.Need-loop-again Inv-loop μ-loop
 loop-again c =
     let at-item = c .before .before in
@@ -82,15 +61,6 @@ loop-again c =
       head .loop .inv .0,
       over-pass _ _ _ _ _ (head .loop .inv .1) _ (next at-item) _ (c .before .reaches .ensures) (not-true _ (c .if2 .taken)),
     )
-
-moved-requires : tie.Need-moved-requires Inv-loop μ-loop
-moved-requires c κs = search needs
-
-add-at-3 : tie.Need-add-at-3 Inv-loop μ-loop
-add-at-3 c = search needs
-
-loop-less-2 : tie.Need-loop-less-2 Inv-loop μ-loop
-loop-less-2 c = search needs
 
 loop-again-2 : tie.Need-loop-again-2 Inv-loop μ-loop
 loop-again-2 c =
@@ -109,21 +79,5 @@ returns-2 c =
 pub extend-spec : {M : Type 1} → statement M
 extend-spec =
     tie.close
-    (tie.spec
-    Inv-loop
-    μ-loop
-    returns
-    at-most-requires
-    item-at-requires
-    add-at
-    loop-holds
-    item-at-requires-2
-    reaches-requires
-    add-at-2
-    loop-less
-    loop-again
-    moved-requires
-    add-at-3
-    loop-less-2
-    loop-again-2
-    returns-2)
+    (tie.spec Inv-loop μ-loop returns (search needs) (search needs) (search needs) loop-holds (search needs) (search needs) (search needs)
+    (search needs) loop-again (search needs) (search needs) (search needs) loop-again-2 returns-2)

@@ -67,15 +67,6 @@ read c =
 
 -- ---- needs
 
-chosen-count-requires : tie.Need-chosen-count-requires Inv-loop μ-loop
-chosen-count-requires c κs = search needs
-
-cast-n : tie.Need-cast-n Inv-loop μ-loop
-cast-n c = search needs
-
-chosen-count-requires-2 : tie.Need-chosen-count-requires-2 Inv-loop μ-loop
-chosen-count-requires-2 c κs = search needs
-
 loop-holds : tie.Need-loop-holds Inv-loop μ-loop
 unfolding itemsOf
 loop-holds c =
@@ -84,96 +75,12 @@ loop-holds c =
     pick-cond (λ (n : ℕ). n ≤ 256) (start .args .bigs) _ _ (λ e. start .pre .2) (λ e. start .pre .1) in
     (omega (arith, c .before .chosen-count .ensures), omega arith, refl, refl, refl, refl, gathering-first _ _)
 
-mul-big : tie.Need-mul-big Inv-loop μ-loop
-mul-big c = search needs
-
-element-copy-out-big : tie.Need-element-copy-out-big Inv-loop μ-loop
-element-copy-out-big c = search needs
-
-mul-segment : tie.Need-mul-segment Inv-loop μ-loop
-mul-segment c = search needs
-
-element-copy-out-segment : tie.Need-element-copy-out-segment Inv-loop μ-loop
-element-copy-out-segment c = search needs
-
-chosen-requires : tie.Need-chosen-requires Inv-loop μ-loop
-chosen-requires c κs = search needs
-
-within-requires : tie.Need-within-requires Inv-loop μ-loop
-within-requires c κs = search needs
-
-mul-a : tie.Need-mul-a Inv-loop μ-loop
-mul-a c = search needs
-
-element-copy-out-a : tie.Need-element-copy-out-a Inv-loop μ-loop
-element-copy-out-a c = search needs
-
-within-requires-2 : tie.Need-within-requires-2 Inv-loop μ-loop
-within-requires-2 c κs = search needs
-
-mul-z : tie.Need-mul-z Inv-loop μ-loop
-mul-z c = search needs
-
-element-copy-out-z : tie.Need-element-copy-out-z Inv-loop μ-loop
-element-copy-out-z c = search needs
-
-over-strokes-requires : tie.Need-over-strokes-requires Inv-loop μ-loop
-over-strokes-requires c κs = search needs
-
-within-requires-3 : tie.Need-within-requires-3 Inv-loop μ-loop
-within-requires-3 c κs = search needs
-
-mul-s : tie.Need-mul-s Inv-loop μ-loop
-mul-s c = search needs
-
-element-copy-out-s : tie.Need-element-copy-out-s Inv-loop μ-loop
-element-copy-out-s c = search needs
-
-within-requires-4 : tie.Need-within-requires-4 Inv-loop μ-loop
-within-requires-4 c κs = search needs
-
-mul-e : tie.Need-mul-e Inv-loop μ-loop
-mul-e c = search needs
-
-element-copy-out-e : tie.Need-element-copy-out-e Inv-loop μ-loop
-element-copy-out-e c = search needs
-
-item-from-requires : tie.Need-item-from-requires Inv-loop μ-loop
-item-from-requires c κs = search needs
-
-enum-known-read : tie.Need-enum-known-read Inv-loop μ-loop
-enum-known-read c = search needs
-
-enum-told : tie.Need-enum-told Inv-loop μ-loop
-enum-told c = search needs
-
 returns : tie.Need-returns Inv-loop μ-loop
 returns c =
     let t = at-t (at-u (c .before .before)) in
     let inv = head t .loop .inv in
     rw (inv .5)
     (gathering-missing _ _ _ _ (inv .6) _ (there t) _ (sym (read (c .before .before)) ∙ ap readOf (c .enum-told .given .1)))
-
-element-write-got : tie.Need-element-write-got Inv-loop μ-loop
-element-write-got c = search needs
-
-mul-got : tie.Need-mul-got Inv-loop μ-loop
-mul-got c = search needs
-
-element-write-got-2 : tie.Need-element-write-got-2 Inv-loop μ-loop
-element-write-got-2 c = search needs
-
-mul-got-2 : tie.Need-mul-got-2 Inv-loop μ-loop
-mul-got-2 c = search needs
-
-element-write-got-3 : tie.Need-element-write-got-3 Inv-loop μ-loop
-element-write-got-3 c = search needs
-
-add-k : tie.Need-add-k Inv-loop μ-loop
-add-k c = search needs
-
-loop-less : tie.Need-loop-less Inv-loop μ-loop
-loop-less c = search needs
 
 loop-again : tie.Need-loop-again Inv-loop μ-loop
 loop-again c =
@@ -204,41 +111,7 @@ returns-2 c =
 pub items-of-spec : {M : Type 1} → statement M
 items-of-spec =
     tie.close
-    (tie.spec
-    Inv-loop
-    μ-loop
-    chosen-count-requires
-    cast-n
-    chosen-count-requires-2
-    loop-holds
-    mul-big
-    element-copy-out-big
-    mul-segment
-    element-copy-out-segment
-    chosen-requires
-    within-requires
-    mul-a
-    element-copy-out-a
-    within-requires-2
-    mul-z
-    element-copy-out-z
-    over-strokes-requires
-    within-requires-3
-    mul-s
-    element-copy-out-s
-    within-requires-4
-    mul-e
-    element-copy-out-e
-    item-from-requires
-    enum-known-read
-    enum-told
-    returns
-    element-write-got
-    mul-got
-    element-write-got-2
-    mul-got-2
-    element-write-got-3
-    add-k
-    loop-less
-    loop-again
-    returns-2)
+    (tie.spec Inv-loop μ-loop (search needs) (search needs) (search needs) loop-holds (search needs) (search needs) (search needs) (search needs)
+    (search needs) (search needs) (search needs) (search needs) (search needs) (search needs) (search needs) (search needs) (search needs)
+    (search needs) (search needs) (search needs) (search needs) (search needs) (search needs) (search needs) (search needs) returns
+    (λ c. search needs) (search needs) (λ c. search needs) (search needs) (λ c. search needs) (search needs) (search needs) loop-again returns-2)

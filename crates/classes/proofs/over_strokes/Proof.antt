@@ -6,8 +6,5 @@ use Rattle.classes.proofs.over_strokes.Tie as tie
 returns : tie.Need-returns
 returns c = rw (c .if1 .taken)
 
-returns-2 : tie.Need-returns-2
-returns-2 c = search needs
-
 pub over-strokes-spec : {M : Type 1} → statement M
-over-strokes-spec = tie.close (tie.spec returns returns-2)
+over-strokes-spec = tie.close (tie.spec returns (λ c. search needs))

@@ -3,11 +3,8 @@ use borrow.Author.Needs.{needs}
 use Rattle.classes.proofs.reaches.Statement.{statement}
 use Rattle.classes.proofs.reaches.Tie as tie
 
-at-or-beyond-requires : tie.Need-at-or-beyond-requires
-at-or-beyond-requires c κs = search needs
-
 returns : tie.Need-returns
 returns c = rw (c .at-or-beyond .ensures)
 
 pub reaches-spec : {M : Type 1} → statement M
-reaches-spec = tie.close (tie.spec at-or-beyond-requires returns)
+reaches-spec = tie.close (tie.spec (search needs) returns)

@@ -4,20 +4,8 @@ use borrow.Author.Needs.{needs}
 use Rattle.classes.proofs.tried.Statement.{statement}
 use Rattle.classes.proofs.tried.Tie as tie
 
-case3-requires : tie.Need-case3-requires
-case3-requires c κs = search needs
-
-ends-before-requires : tie.Need-ends-before-requires
-ends-before-requires c κs = search needs
-
 returns : tie.Need-returns
 returns c = let at2 = c .before in tried-third _ _ _ _ _ _ _ (at2 .before .case3 .ensures) (at2 .ends-before .ensures) (c .if1 .taken)
-
-enum-known-end : tie.Need-enum-known-end
-enum-known-end c = search needs
-
-enum-told : tie.Need-enum-told
-enum-told c = search needs
 
 returns-2 : tie.Need-returns-2
 returns-2 c =
@@ -34,11 +22,4 @@ returns-3 c =
 pub tried-spec : {M : Type 1} → statement M
 tried-spec =
     tie.close
-    (tie.spec
-    case3-requires
-    ends-before-requires
-    returns
-    enum-known-end
-    enum-told
-    returns-2
-    returns-3)
+    (tie.spec (search needs) (search needs) returns (search needs) (search needs) returns-2 returns-3)

@@ -31,21 +31,9 @@ items c = let a = c .before .args in itemsOf (a .n) (now (a .directions)) (now (
 loop-holds : tie.Need-loop-holds Inv-loop μ-loop
 loop-holds c = (omega arith, omega arith, refl, carries-first _ _)
 
-item-at-requires : tie.Need-item-at-requires Inv-loop μ-loop
-item-at-requires c κs = search needs
-
 -- the next item
 here : (c : tie.After-item-at Inv-loop μ-loop) → getElem? (items (c .before .before)) (c .before .before .loop .i) ≡ some (itemOf (c .item-at .result))
 here c = item-in _ _ _ _ _ _ (c .before .loop-test .taken) (c .item-at .ensures)
-
-wanted-requires : tie.Need-wanted-requires Inv-loop μ-loop
-wanted-requires c κs = search needs
-
-add-i : tie.Need-add-i Inv-loop μ-loop
-add-i c = search needs
-
-loop-less : tie.Need-loop-less Inv-loop μ-loop
-loop-less c = search needs
 
 loop-again : tie.Need-loop-again Inv-loop μ-loop
 loop-again c =
@@ -57,24 +45,6 @@ loop-again c =
       head .loop .inv .2,
       carries-pass _ _ _ _ _ _ _ (head .loop .inv .3) _ (here at-item) _ (at-wanted .wanted .ensures) (not-true _ (c .if1 .taken)),
     )
-
-case2-requires : tie.Need-case2-requires Inv-loop μ-loop
-case2-requires c κs = search needs
-
-tried-requires : tie.Need-tried-requires Inv-loop μ-loop
-tried-requires c κs = search needs
-
-enum-known-found : tie.Need-enum-known-found Inv-loop μ-loop
-enum-known-found c = search needs
-
-enum-told : tie.Need-enum-told Inv-loop μ-loop
-enum-told c = search needs
-
-add-i-2 : tie.Need-add-i-2 Inv-loop μ-loop
-add-i-2 c = search needs
-
-loop-less-2 : tie.Need-loop-less-2 Inv-loop μ-loop
-loop-less-2 c = search needs
 
 loop-again-2 : tie.Need-loop-again-2 Inv-loop μ-loop
 loop-again-2 c =
@@ -91,18 +61,6 @@ loop-again-2 c =
           (not-false _ (at-if .if1 .left)) (c .enum-told .given .1),
     )
 
-cast-rows : tie.Need-cast-rows Inv-loop μ-loop
-cast-rows c = search needs
-
-mul-rows : tie.Need-mul-rows Inv-loop μ-loop
-mul-rows c = search needs
-
-array-set-from-rows : tie.Need-array-set-from-rows Inv-loop μ-loop
-array-set-from-rows c = search needs
-
-add-count : tie.Need-add-count Inv-loop μ-loop
-add-count c = search needs
-
 add-next : tie.Need-add-next Inv-loop μ-loop
 add-next c =
     let at-tried = c .before .before .before .before in
@@ -115,12 +73,6 @@ add-next c =
     (at-wanted .wanted .ensures) _ (at-item .before .loop-test .taken) _ (at-tried .before .case2 .ensures) _ (at-tried .tried .ensures)
     (not-false _ (at-if .if1 .left)) _ (c .before .before .found .given .1) in
     omega (arith, begins .2, head .before .pre)
-
-add-i-3 : tie.Need-add-i-3 Inv-loop μ-loop
-add-i-3 c = search needs
-
-loop-less-3 : tie.Need-loop-less-3 Inv-loop μ-loop
-loop-less-3 c = search needs
 
 loop-again-3 : tie.Need-loop-again-3 Inv-loop μ-loop
 loop-again-3 c =
@@ -150,28 +102,6 @@ returns c =
 pub walk-spec : {M : Type 1} → statement M
 walk-spec =
     tie.close
-    (tie.spec
-    Inv-loop
-    μ-loop
-    loop-holds
-    item-at-requires
-    wanted-requires
-    add-i
-    loop-less
-    loop-again
-    case2-requires
-    tried-requires
-    enum-known-found
-    enum-told
-    add-i-2
-    loop-less-2
-    loop-again-2
-    cast-rows
-    mul-rows
-    array-set-from-rows
-    add-count
-    add-next
-    add-i-3
-    loop-less-3
-    loop-again-3
-    returns)
+    (tie.spec Inv-loop μ-loop loop-holds (search needs) (search needs) (search needs) (search needs) loop-again (search needs) (search needs)
+    (search needs) (search needs) (search needs) (search needs) loop-again-2 (search needs) (search needs) (search needs) (search needs) add-next
+    (search needs) (search needs) loop-again-3 returns)

@@ -4,12 +4,6 @@ use borrow.Author.Needs.{needs}
 use Rattle.classes.proofs.wanted.Statement.{statement}
 use Rattle.classes.proofs.wanted.Tie as tie
 
-enum-known-last : tie.Need-enum-known-last
-enum-known-last c = search needs
-
-enum-told : tie.Need-enum-told
-enum-told c = search needs
-
 returns : tie.Need-returns
 returns c = wanted-first _ _ (c .enum-told .given .1)
 
@@ -17,4 +11,4 @@ returns-2 : tie.Need-returns-2
 returns-2 c = wanted-after _ _ _ (c .before .before .before .last .given .1)
 
 pub wanted-spec : {M : Type 1} → statement M
-wanted-spec = tie.close (tie.spec enum-known-last enum-told returns returns-2)
+wanted-spec = tie.close (tie.spec (search needs) (search needs) returns returns-2)

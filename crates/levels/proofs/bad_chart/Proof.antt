@@ -50,9 +50,6 @@ first-loop c = c .before .before .before
 more-2 : (c : tie.In-loop2 Inv-loop μ-loop Inv-loop2 μ-loop2) → c .before .loop2 .i < start (first-loop (c .before)) .args .t1 .«stroke_count»
 more-2 c = omega (arith, c .loop2-test .taken)
 
-overfull-requires : tie.Need-overfull-requires Inv-loop μ-loop Inv-loop2 μ-loop2
-overfull-requires c κs = search needs
-
 returns : tie.Need-returns Inv-loop μ-loop Inv-loop2 μ-loop2
 returns c = bad-counts _ (sym (c .before .overfull .ensures) ∙ c .if1 .taken)
 
@@ -85,24 +82,6 @@ loop-holds c =
     (sym (c .before .wrong-triples3 .ensures) ∙ c .if4 .left) in
     (omega arith, fits at1 .strokes, all, λ plain. all)
 
-cast-s : tie.Need-cast-s Inv-loop μ-loop Inv-loop2 μ-loop2
-cast-s c = search needs
-
-mul-s : tie.Need-mul-s Inv-loop μ-loop Inv-loop2 μ-loop2
-mul-s c = search needs
-
-element-copy-out-s : tie.Need-element-copy-out-s Inv-loop μ-loop Inv-loop2 μ-loop2
-element-copy-out-s c = search needs
-
-plain-stroke-requires : tie.Need-plain-stroke-requires Inv-loop μ-loop Inv-loop2 μ-loop2
-plain-stroke-requires c κs = search needs
-
-add-k : tie.Need-add-k Inv-loop μ-loop Inv-loop2 μ-loop2
-add-k c = search needs
-
-loop-less : tie.Need-loop-less Inv-loop μ-loop Inv-loop2 μ-loop2
-loop-less c = search needs
-
 loop-again : tie.Need-loop-again Inv-loop μ-loop Inv-loop2 μ-loop2
 loop-again c =
     let in-loop = c .before .before in
@@ -126,30 +105,12 @@ loop2-holds c =
     let head = c .before .before in
     (omega arith, head .loop .inv .1, head .loop .inv .2)
 
-cast-s-2 : tie.Need-cast-s-2 Inv-loop μ-loop Inv-loop2 μ-loop2
-cast-s-2 c = search needs
-
-mul-s-2 : tie.Need-mul-s-2 Inv-loop μ-loop Inv-loop2 μ-loop2
-mul-s-2 c = search needs
-
-element-copy-out-s-2 : tie.Need-element-copy-out-s-2 Inv-loop μ-loop Inv-loop2 μ-loop2
-element-copy-out-s-2 c = search needs
-
-wrong-stroke-requires : tie.Need-wrong-stroke-requires Inv-loop μ-loop Inv-loop2 μ-loop2
-wrong-stroke-requires c κs = search needs
-
 returns-6 : tie.Need-returns-6 Inv-loop μ-loop Inv-loop2 μ-loop2
 returns-6 c =
     let in-loop = c .before .before .before in
     let head = in-loop .before in
     sym (any-here wrongStroke _ (head .loop2 .i) _ (long (first-loop head)) no-stroke (more-2 in-loop)
     (sym (c .before .wrong-stroke .ensures) ∙ c .if6 .taken)) ∙ head .loop2 .inv .2
-
-add-i : tie.Need-add-i Inv-loop μ-loop Inv-loop2 μ-loop2
-add-i c = search needs
-
-loop2-less : tie.Need-loop2-less Inv-loop μ-loop Inv-loop2 μ-loop2
-loop2-less c = search needs
 
 loop2-again : tie.Need-loop2-again Inv-loop μ-loop Inv-loop2 μ-loop2
 loop2-again c =
@@ -169,35 +130,6 @@ returns-7 c =
 pub bad-chart-spec : {M : Type 1} → statement M
 bad-chart-spec =
     tie.close
-    (tie.spec
-    Inv-loop
-    μ-loop
-    Inv-loop2
-    μ-loop2
-    overfull-requires
-    returns
-    wrong-triples-requires
-    returns-2
-    wrong-triples-requires-2
-    returns-3
-    wrong-triples-requires-3
-    returns-4
-    loop-holds
-    cast-s
-    mul-s
-    element-copy-out-s
-    plain-stroke-requires
-    add-k
-    loop-less
-    loop-again
-    returns-5
-    loop2-holds
-    cast-s-2
-    mul-s-2
-    element-copy-out-s-2
-    wrong-stroke-requires
-    returns-6
-    add-i
-    loop2-less
-    loop2-again
-    returns-7)
+    (tie.spec Inv-loop μ-loop Inv-loop2 μ-loop2 (search needs) returns wrong-triples-requires returns-2 wrong-triples-requires-2 returns-3
+    wrong-triples-requires-3 returns-4 loop-holds (search needs) (search needs) (search needs) (search needs) (search needs) (search needs) loop-again
+    returns-5 loop2-holds (search needs) (search needs) (search needs) (search needs) returns-6 (search needs) (search needs) loop2-again returns-7)

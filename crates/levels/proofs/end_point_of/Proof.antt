@@ -40,27 +40,12 @@ returns : tie.Need-returns
 unfolding levelsOf endPoint
 returns c = let a = c .before .args in rw (at-out (a .t1 .«big_count») (a .big) (a .t1 .bigs) (c .if1 .taken))
 
-mul-b : tie.Need-mul-b
-mul-b c = search needs
-
-element-copy-out-b : tie.Need-element-copy-out-b
-element-copy-out-b c = search needs
-
 returns-2 : tie.Need-returns-2
 unfolding levelsOf endPoint lastStroke
 returns-2 c =
     let at1 = c .before .before .before in
     let a = at1 .before .args in
     rw (big-there at1, at-out (a .t1 .«segment_count») _ (a .t1 .segments) (c .if2 .taken))
-
-cast-z : tie.Need-cast-z
-cast-z c = search needs
-
-mul-z : tie.Need-mul-z
-mul-z c = search needs
-
-element-copy-out-z : tie.Need-element-copy-out-z
-element-copy-out-z c = search needs
 
 returns-3 : tie.Need-returns-3
 unfolding levelsOf endPoint lastStroke
@@ -69,15 +54,6 @@ returns-3 c =
     let at1 = at2 .before .before .before in
     let a = at1 .before .args in
     rw (big-there at1, segment-there at2, at-out (a .t1 .«stroke_count») _ (a .t1 .strokes) (c .if3 .taken))
-
-cast-e : tie.Need-cast-e
-cast-e c = search needs
-
-mul-e : tie.Need-mul-e
-mul-e c = search needs
-
-element-copy-out-e : tie.Need-element-copy-out-e
-element-copy-out-e c = search needs
 
 returns-4 : tie.Need-returns-4
 unfolding levelsOf endPoint lastStroke
@@ -92,16 +68,5 @@ returns-4 c =
 pub end-point-of-spec : {M : Type 1} → statement M
 end-point-of-spec =
     tie.close
-    (tie.spec
-    returns
-    mul-b
-    element-copy-out-b
-    returns-2
-    cast-z
-    mul-z
-    element-copy-out-z
-    returns-3
-    cast-e
-    mul-e
-    element-copy-out-e
-    returns-4)
+    (tie.spec returns (search needs) (search needs) returns-2 (search needs) (search needs) (search needs) returns-3 (search needs) (search needs)
+    (search needs) returns-4)

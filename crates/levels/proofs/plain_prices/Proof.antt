@@ -4,11 +4,8 @@ use Rattle.levels.proofs.Tests.{plain-prices}
 use Rattle.levels.proofs.plain_prices.Statement.{statement}
 use Rattle.levels.proofs.plain_prices.Tie as tie
 
-plain-product-requires : tie.Need-plain-product-requires
-plain-product-requires c κs = search needs
-
 returns : tie.Need-returns
 returns c good = plain-prices _ (c .plain-product .ensures good)
 
 pub plain-prices-spec : {M : Type 1} → statement M
-plain-prices-spec = tie.close (tie.spec plain-product-requires returns)
+plain-prices-spec = tie.close (tie.spec (search needs) returns)

@@ -4,11 +4,8 @@ use Rattle.levels.proofs.Tests.{right-by-test}
 use Rattle.levels.proofs.plain_stroke.Statement.{statement}
 use Rattle.levels.proofs.plain_stroke.Tie as tie
 
-plain-prices-requires : tie.Need-plain-prices-requires
-plain-prices-requires c κs = search needs
-
 returns : tie.Need-returns
 returns c = right-by-test _ _ (c .plain-prices .ensures)
 
 pub plain-stroke-spec : {M : Type 1} → statement M
-plain-stroke-spec = tie.close (tie.spec plain-prices-requires returns)
+plain-stroke-spec = tie.close (tie.spec (search needs) returns)

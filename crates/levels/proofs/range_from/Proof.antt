@@ -34,9 +34,6 @@ returns-4 c =
     let at2 = c .before .before .before .before in
     rw (le-leb _ _ (at2 .before .before .if1 .left), lt-ltb _ _ (at2 .if2 .left), le-ltb _ _ (c .if4 .taken)) (no-end _)
 
-span-of-requires : tie.Need-span-of-requires
-span-of-requires c κs = search needs
-
 returns-5 : tie.Need-returns-5
 unfolding rangeFrom strokeIf
 returns-5 c =
@@ -53,5 +50,4 @@ returns-5 c =
     )
 
 pub range-from-spec : {M : Type 1} → statement M
-range-from-spec =
-    tie.close (tie.spec returns returns-2 returns-3 returns-4 span-of-requires returns-5)
+range-from-spec = tie.close (tie.spec returns returns-2 returns-3 returns-4 (search needs) returns-5)

@@ -7,9 +7,6 @@ use Rattle.laws.proofs.Answers.{counted, on-bad, on-good}
 use Rattle.levels.proofs.resolve_bigseg_range.Statement.{statement}
 use Rattle.levels.proofs.resolve_bigseg_range.Tie as tie
 
-bad-chart-requires : tie.Need-bad-chart-requires
-bad-chart-requires c κs = search needs
-
 returns : tie.Need-returns
 unfolding rangeAnswer rangeCall
 returns c = sym (on-bad _ _ (sym (c .before .bad-chart .ensures) ∙ c .if1 .taken))
@@ -22,5 +19,4 @@ unfolding rangeAnswer rangeCall
 returns-2 c = ap given (c .range-of .ensures) ∙ sym (on-good _ _ (sym (c .before .before .bad-chart .ensures) ∙ c .before .if1 .left))
 
 pub resolve-bigseg-range-spec : {M : Type 1} → statement M
-resolve-bigseg-range-spec =
-    tie.close (tie.spec bad-chart-requires returns range-of-requires returns-2)
+resolve-bigseg-range-spec = tie.close (tie.spec (search needs) returns range-of-requires returns-2)

@@ -7,9 +7,6 @@ use Rattle.laws.proofs.Answers.{counted, on-bad, on-good}
 use Rattle.levels.proofs.resolve_sup_end_point.Statement.{statement}
 use Rattle.levels.proofs.resolve_sup_end_point.Tie as tie
 
-bad-chart-requires : tie.Need-bad-chart-requires
-bad-chart-requires c κs = search needs
-
 returns : tie.Need-returns
 unfolding endPointAnswer endPointCall
 returns c = sym (on-bad _ _ (sym (c .before .bad-chart .ensures) ∙ c .if1 .taken))
@@ -22,5 +19,4 @@ unfolding endPointAnswer endPointCall
 returns-2 c = ap given (c .end-point-of .ensures) ∙ sym (on-good _ _ (sym (c .before .before .bad-chart .ensures) ∙ c .before .if1 .left))
 
 pub resolve-sup-end-point-spec : {M : Type 1} → statement M
-resolve-sup-end-point-spec =
-    tie.close (tie.spec bad-chart-requires returns end-point-of-requires returns-2)
+resolve-sup-end-point-spec = tie.close (tie.spec (search needs) returns end-point-of-requires returns-2)

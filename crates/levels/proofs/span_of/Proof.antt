@@ -4,15 +4,9 @@ use borrow.Author.Needs.{needs}
 use Rattle.levels.proofs.span_of.Statement.{statement}
 use Rattle.levels.proofs.span_of.Tie as tie
 
-lower-requires : tie.Need-lower-requires
-lower-requires c κs = search needs
-
-higher-requires : tie.Need-higher-requires
-higher-requires c κs = search needs
-
 returns : tie.Need-returns
 unfolding spanned
 returns c = simp (c .before .lower .ensures, c .higher .ensures)
 
 pub span-of-spec : {M : Type 1} → statement M
-span-of-spec = tie.close (tie.spec lower-requires higher-requires returns)
+span-of-spec = tie.close (tie.spec (search needs) (search needs) returns)

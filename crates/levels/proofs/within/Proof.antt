@@ -5,9 +5,6 @@ use borrow.Author.Needs.{needs}
 use Rattle.levels.proofs.within.Statement.{statement}
 use Rattle.levels.proofs.within.Tie as tie
 
-rem-result : tie.Need-rem-result
-rem-result c = search needs
-
 cast-result : tie.Need-cast-result
 cast-result c = omega (arith, mod-le (c .args .i) (c .args .n))
 
@@ -15,4 +12,4 @@ returns : tie.Need-returns
 returns c = record { below = mod-lt _ (omega arith); same = λ h. mod-eq-of-lt h }
 
 pub within-spec : {M : Type 1} → statement M
-within-spec = tie.close (tie.spec rem-result cast-result returns)
+within-spec = tie.close (tie.spec (search needs) cast-result returns)

@@ -4,15 +4,9 @@ use Rattle.rules.specs.Refusals.{badPrices, wrongStroke}
 use Rattle.levels.proofs.wrong_stroke.Statement.{statement}
 use Rattle.levels.proofs.wrong_stroke.Tie as tie
 
-is-price-requires : tie.Need-is-price-requires
-is-price-requires c κs = search needs
-
-is-price-requires-2 : tie.Need-is-price-requires-2
-is-price-requires-2 c κs = search needs
-
 returns : tie.Need-returns
 unfolding wrongStroke badPrices
 returns c = rw (c .before .is-price .ensures, c .is-price2 .ensures)
 
 pub wrong-stroke-spec : {M : Type 1} → statement M
-wrong-stroke-spec = tie.close (tie.spec is-price-requires is-price-requires-2 returns)
+wrong-stroke-spec = tie.close (tie.spec (search needs) (search needs) returns)

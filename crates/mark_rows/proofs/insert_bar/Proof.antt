@@ -28,18 +28,6 @@ bar-place-requires c κs =
     let begun = c .before in
     (long (begun .before .before .before), begun .start-at .ensures .0, begun .start-at .ensures .1)
 
-add-next : tie.Need-add-next
-add-next c = search needs
-
-mul-if2 : tie.Need-mul-if2
-mul-if2 c = search needs
-
-slice-read-if2 : tie.Need-slice-read-if2
-slice-read-if2 c = search needs
-
-same-length : tie.Need-same-length
-same-length c = search needs
-
 returns : tie.Need-returns
 returns c =
     let near = c .before .before in
@@ -48,15 +36,6 @@ returns c =
       inserted-none _ _ _ _ (start .pre .0) (found .bar-place .ensures .0) (found .bar-place .ensures .1 .0) (near .if1 .taken) (c .if2 .taken),
       (refl, (omega arith, omega arith, omega arith)),
     )
-
-put-in-requires : tie.Need-put-in-requires
-put-in-requires c κs = search needs
-
-add-count : tie.Need-add-count
-add-count c = search needs
-
-same-length-2 : tie.Need-same-length-2
-same-length-2 c = search needs
 
 returns-2 : tie.Need-returns-2
 returns-2 c =
@@ -72,15 +51,5 @@ returns-2 c =
 pub insert-bar-spec : {M : Type 1} → statement M
 insert-bar-spec =
     tie.close
-    (tie.spec
-    start-at-requires
-    bar-place-requires
-    add-next
-    mul-if2
-    slice-read-if2
-    same-length
-    returns
-    put-in-requires
-    add-count
-    same-length-2
-    returns-2)
+    (tie.spec start-at-requires bar-place-requires (search needs) (search needs) (search needs) (search needs) returns (search needs) (search needs)
+    (search needs) returns-2)

@@ -10,29 +10,11 @@ use Rattle.mark_rows.proofs.number_bar.Tie as tie
 long : (c : tie.Start) → c .args .zeros ≤ length (c .args .keys .now)
 long c = omega arith
 
-cast-key-of : tie.Need-cast-key-of
-cast-key-of c = search needs
-
-key-of-requires : tie.Need-key-of-requires
-key-of-requires c κs = search needs
-
-add-later : tie.Need-add-later
-add-later c = search needs
-
-place-of-requires : tie.Need-place-of-requires
-place-of-requires c κs = search needs
-
-same-length : tie.Need-same-length
-same-length c = search needs
-
 returns : tie.Need-returns
 returns c =
     let found = c .before .before in
     let at-key = found .before .before in
     bar-first _ _ _ _ _ _ _ _ _ (long (at-key .before .before .before)) (at-key .key-of .ensures) (found .place-of .ensures .1) (c .before .if1 .taken) (c .if2 .taken)
-
-same-length-2 : tie.Need-same-length-2
-same-length-2 c = search needs
 
 returns-2 : tie.Need-returns-2
 returns-2 c =
@@ -40,23 +22,11 @@ returns-2 c =
     let at-key = found .before .before in
     bar-zero _ _ _ _ _ _ _ _ _ (long (at-key .before .before .before)) (at-key .key-of .ensures) (found .place-of .ensures .1) (c .before .if1 .taken) (c .if2 .left)
 
-same-length-3 : tie.Need-same-length-3
-same-length-3 c = search needs
-
 returns-3 : tie.Need-returns-3
 returns-3 c =
     let found = c .before .before in
     let at-key = found .before .before in
     bar-before _ _ _ _ _ _ _ _ _ (long (at-key .before .before .before)) (at-key .key-of .ensures) (found .place-of .ensures .1) (c .before .if1 .left) (c .if3 .taken)
-
-push-3n-requires : tie.Need-push-3n-requires
-push-3n-requires c κs = search needs
-
-same-length-4 : tie.Need-same-length-4
-same-length-4 c = search needs
-
-same-length-5 : tie.Need-same-length-5
-same-length-5 c = search needs
 
 returns-4 : tie.Need-returns-4
 returns-4 c =
@@ -71,18 +41,5 @@ returns-4 c =
 pub number-bar-spec : {M : Type 1} → statement M
 number-bar-spec =
     tie.close
-    (tie.spec
-    cast-key-of
-    key-of-requires
-    add-later
-    place-of-requires
-    same-length
-    returns
-    same-length-2
-    returns-2
-    same-length-3
-    returns-3
-    push-3n-requires
-    same-length-4
-    same-length-5
-    returns-4)
+    (tie.spec (search needs) (search needs) (search needs) (search needs) (search needs) returns (search needs) returns-2 (search needs) returns-3
+    (search needs) (search needs) (search needs) returns-4)

@@ -30,12 +30,6 @@ small c =
 loop-holds : tie.Need-loop-holds Inv-loop μ-loop
 loop-holds c = numbering-first _ _ _ _ _ _ _ (c .before .before .before .pre .0 .0) (c .before .before .before .pre .0 .2)
 
-mul-number-bar : tie.Need-mul-number-bar Inv-loop μ-loop
-mul-number-bar c = search needs
-
-shared-slice-read-number-bar : tie.Need-shared-slice-read-number-bar Inv-loop μ-loop
-shared-slice-read-number-bar c = search needs
-
 number-bar-requires : tie.Need-number-bar-requires Inv-loop μ-loop
 number-bar-requires c κs =
     let in-loop = c .before .before .before in
@@ -50,12 +44,6 @@ number-bar-requires c κs =
       omega (arith, inv .grown .wide, start .pre .0),
     )
 
-add-i : tie.Need-add-i Inv-loop μ-loop
-add-i c = search needs
-
-loop-less : tie.Need-loop-less Inv-loop μ-loop
-loop-less c = search needs
-
 loop-again : tie.Need-loop-again Inv-loop μ-loop
 loop-again c =
     let step = c .before .before .before .before in
@@ -63,12 +51,6 @@ loop-again c =
     let head = in-loop .before in
     let start = head .before .before .before .before in
     numbering-next _ _ _ _ _ _ _ (start .pre .0 .0) (start .pre .0 .2) _ _ _ _ (head .loop .i) (head .loop .inv) (in-loop .loop-test .taken) _ _ _ _ (step .number-bar .ensures)
-
-same-length : tie.Need-same-length Inv-loop μ-loop
-same-length c = search needs
-
-same-length-2 : tie.Need-same-length-2 Inv-loop μ-loop
-same-length-2 c = search needs
 
 returns : tie.Need-returns Inv-loop μ-loop
 returns c =
@@ -80,16 +62,5 @@ returns c =
 pub number-bars-spec : {M : Type 1} → statement M
 number-bars-spec =
     tie.close
-    (tie.spec
-    Inv-loop
-    μ-loop
-    loop-holds
-    mul-number-bar
-    shared-slice-read-number-bar
-    number-bar-requires
-    add-i
-    loop-less
-    loop-again
-    same-length
-    same-length-2
-    returns)
+    (tie.spec Inv-loop μ-loop loop-holds (search needs) (search needs) number-bar-requires (search needs) (search needs) loop-again (search needs)
+    (search needs) returns)

@@ -5,12 +5,6 @@ use Rattle.mark_rows.proofs.Places.{guessed-place}
 use Rattle.mark_rows.proofs.place_near.Statement.{statement}
 use Rattle.mark_rows.proofs.place_near.Tie as tie
 
-mul-if2 : tie.Need-mul-if2
-mul-if2 c = search needs
-
-shared-slice-read-if2 : tie.Need-shared-slice-read-if2
-shared-slice-read-if2 c = search needs
-
 returns : tie.Need-returns
 returns c =
     let near = c .before .before in
@@ -24,4 +18,4 @@ returns-2 : tie.Need-returns-2
 returns-2 c = c .place-of .ensures .1
 
 pub place-near-spec : {M : Type 1} → statement M
-place-near-spec = tie.close (tie.spec mul-if2 shared-slice-read-if2 returns place-of-requires returns-2)
+place-near-spec = tie.close (tie.spec (search needs) (search needs) returns place-of-requires returns-2)

@@ -15,14 +15,8 @@ put-row-requires c κs =
     let pre = found .before .before .before .before .pre in
     ((pre .0, pre .1, pre .2), found .place-near .ensures)
 
-same-length : tie.Need-same-length
-same-length c = search needs
-
-same-length-2 : tie.Need-same-length-2
-same-length-2 c = search needs
-
 returns : tie.Need-returns
 returns c = c .before .before .before .before .put-row .ensures
 
 pub push-near-spec : {M : Type 1} → statement M
-push-near-spec = tie.close (tie.spec place-near-requires put-row-requires same-length same-length-2 returns)
+push-near-spec = tie.close (tie.spec place-near-requires put-row-requires (search needs) (search needs) returns)

@@ -19,24 +19,6 @@ abbrev μ-loop : tie.MeasureT-loop
 loop-holds : tie.Need-loop-holds Inv-loop μ-loop
 loop-holds c = (search needs, refl, refl)
 
-mul-next : tie.Need-mul-next Inv-loop μ-loop
-mul-next c = search needs
-
-slice-read-next : tie.Need-slice-read-next Inv-loop μ-loop
-slice-read-next c = search needs
-
-mul-bars : tie.Need-mul-bars Inv-loop μ-loop
-mul-bars c = search needs
-
-slice-write-bars : tie.Need-slice-write-bars Inv-loop μ-loop
-slice-write-bars c = search needs
-
-add-i : tie.Need-add-i Inv-loop μ-loop
-add-i c = search needs
-
-loop-less : tie.Need-loop-less Inv-loop μ-loop
-loop-less c = search needs
-
 loop-again : tie.Need-loop-again Inv-loop μ-loop
 loop-again c =
     let head = c .before .before in
@@ -45,12 +27,6 @@ loop-again c =
       simp length-set (inv .1),
       put-next _ _ (head .loop .i) _ _ (omega (arith, inv, head .before .pre)) (inv .2) 0 (c .before .loop-test .taken),
     )
-
-mul-bars-2 : tie.Need-mul-bars-2 Inv-loop μ-loop
-mul-bars-2 c = search needs
-
-slice-write-bars-2 : tie.Need-slice-write-bars-2 Inv-loop μ-loop
-slice-write-bars-2 c = search needs
 
 same-length : tie.Need-same-length Inv-loop μ-loop
 same-length c = simp length-set (c .before .loop .inv .1)
@@ -64,18 +40,5 @@ returns c =
 pub put-in-spec : {M : Type 1} → statement M
 put-in-spec =
     tie.close
-    (tie.spec
-    Inv-loop
-    μ-loop
-    loop-holds
-    mul-next
-    slice-read-next
-    mul-bars
-    slice-write-bars
-    add-i
-    loop-less
-    loop-again
-    mul-bars-2
-    slice-write-bars-2
-    same-length
-    returns)
+    (tie.spec Inv-loop μ-loop loop-holds (search needs) (search needs) (search needs) (search needs) (search needs) (search needs) loop-again
+    (search needs) (search needs) same-length returns)

@@ -15,24 +15,6 @@ long c = omega arith
 room : (c : tie.Start) → c .args .n ≤ length (c .args .orders .now)
 room c = omega arith
 
-mul-smaller : tie.Need-mul-smaller
-mul-smaller c = search needs
-
-slice-read-smaller : tie.Need-slice-read-smaller
-slice-read-smaller c = search needs
-
-smaller-requires : tie.Need-smaller-requires
-smaller-requires c κs = search needs
-
-mul-orders : tie.Need-mul-orders
-mul-orders c = search needs
-
-slice-write-orders : tie.Need-slice-write-orders
-slice-write-orders c = search needs
-
-same-length : tie.Need-same-length
-same-length c = search needs
-
 returns : tie.Need-returns
 returns c =
     let near = c .before .before in
@@ -40,27 +22,6 @@ returns c =
       pushed-repeat _ _ _ _ _ _ (long start) (room start) (start .pre .1) (near .if1 .taken) _ (c .smaller .ensures),
       ((λ ends r m. r), record { more = omega arith; stay = refl; long = refl; wide = simp length-set }),
     )
-
-mul-keys : tie.Need-mul-keys
-mul-keys c = search needs
-
-slice-write-keys : tie.Need-slice-write-keys
-slice-write-keys c = search needs
-
-mul-orders-2 : tie.Need-mul-orders-2
-mul-orders-2 c = search needs
-
-slice-write-orders-2 : tie.Need-slice-write-orders-2
-slice-write-orders-2 c = search needs
-
-add-result : tie.Need-add-result
-add-result c = search needs
-
-same-length-2 : tie.Need-same-length-2
-same-length-2 c = search needs
-
-same-length-3 : tie.Need-same-length-3
-same-length-3 c = search needs
 
 returns-2 : tie.Need-returns-2
 returns-2 c =
@@ -76,19 +37,5 @@ returns-2 c =
 pub put-row-spec : {M : Type 1} → statement M
 put-row-spec =
     tie.close
-    (tie.spec
-    mul-smaller
-    slice-read-smaller
-    smaller-requires
-    mul-orders
-    slice-write-orders
-    same-length
-    returns
-    mul-keys
-    slice-write-keys
-    mul-orders-2
-    slice-write-orders-2
-    add-result
-    same-length-2
-    same-length-3
-    returns-2)
+    (tie.spec (search needs) (search needs) (search needs) (search needs) (search needs) (search needs) returns (search needs) (search needs)
+    (search needs) (search needs) (search needs) (search needs) (search needs) returns-2)

@@ -21,18 +21,6 @@ loop-holds : tie.Need-loop-holds Inv-loop μ-loop
 unfolding marksIn
 loop-holds c = (omega arith, refl, refl)
 
-mul-row-of : tie.Need-mul-row-of Inv-loop μ-loop
-mul-row-of c = search needs
-
-shared-slice-read-row-of : tie.Need-shared-slice-read-row-of Inv-loop μ-loop
-shared-slice-read-row-of c = search needs
-
-mul-row-of-2 : tie.Need-mul-row-of-2 Inv-loop μ-loop
-mul-row-of-2 c = search needs
-
-shared-slice-read-row-of-2 : tie.Need-shared-slice-read-row-of-2 Inv-loop μ-loop
-shared-slice-read-row-of-2 c = search needs
-
 row-of-requires : tie.Need-row-of-requires Inv-loop μ-loop
 row-of-requires c κs =
     let in-loop = c .before .before in
@@ -40,18 +28,6 @@ row-of-requires c κs =
     let pre = head .before .before .before .before .before .pre in
     let inside = taken-at _ (head .loop .i) _ 0 (pre .1) (in-loop .loop-test .taken) (pre .0 .1) in
     (pre .0 .3, inside .0, inside .1)
-
-mul-rows : tie.Need-mul-rows Inv-loop μ-loop
-mul-rows c = search needs
-
-array-set-from-rows : tie.Need-array-set-from-rows Inv-loop μ-loop
-array-set-from-rows c = search needs
-
-add-i : tie.Need-add-i Inv-loop μ-loop
-add-i c = search needs
-
-loop-less : tie.Need-loop-less Inv-loop μ-loop
-loop-less c = search needs
 
 loop-again : tie.Need-loop-again Inv-loop μ-loop
 loop-again c =
@@ -65,9 +41,6 @@ loop-again c =
       marks-next _ _ _ _ (head .loop .i) (inv .2) _ (omega (arith, more, pre .0)) (omega (arith, more, pre .0)) (omega (arith, more, pre .0, inv .1)) (c .row-of .ensures),
     )
 
-cast-t20 : tie.Need-cast-t20 Inv-loop μ-loop
-cast-t20 c = search needs
-
 returns : tie.Need-returns Inv-loop μ-loop
 returns c =
     let head = c .before in
@@ -78,19 +51,5 @@ returns c =
 pub rows-of-spec : {M : Type 1} → statement M
 rows-of-spec =
     tie.close
-    (tie.spec
-    Inv-loop
-    μ-loop
-    loop-holds
-    mul-row-of
-    shared-slice-read-row-of
-    mul-row-of-2
-    shared-slice-read-row-of-2
-    row-of-requires
-    mul-rows
-    array-set-from-rows
-    add-i
-    loop-less
-    loop-again
-    cast-t20
-    returns)
+    (tie.spec Inv-loop μ-loop loop-holds (search needs) (search needs) (search needs) (search needs) row-of-requires (search needs) (search needs)
+    (search needs) (search needs) loop-again (search needs) returns)

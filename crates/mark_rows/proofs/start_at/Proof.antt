@@ -6,15 +6,6 @@ use Rattle.mark_rows.proofs.Bars.{below-hint, below-none}
 use Rattle.mark_rows.proofs.start_at.Statement.{statement}
 use Rattle.mark_rows.proofs.start_at.Tie as tie
 
-sub-if2 : tie.Need-sub-if2
-sub-if2 c = search needs
-
-mul-if2 : tie.Need-mul-if2
-mul-if2 c = search needs
-
-shared-slice-read-if2 : tie.Need-shared-slice-read-if2
-shared-slice-read-if2 c = search needs
-
 returns : tie.Need-returns
 returns c = (omega arith, nil)
 
@@ -30,12 +21,4 @@ returns-3 c =
     (omega arith, below-none _ _ _ _ (pre .0) (pre .1) (c .if1 .left))
 
 pub start-at-spec : {M : Type 1} → statement M
-start-at-spec =
-    tie.close
-    (tie.spec
-    sub-if2
-    mul-if2
-    shared-slice-read-if2
-    returns
-    returns-2
-    returns-3)
+start-at-spec = tie.close (tie.spec (search needs) (search needs) (search needs) returns returns-2 returns-3)
