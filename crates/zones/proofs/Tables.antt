@@ -86,13 +86,13 @@ module _ (h d first last : ℕ) (bars : List (List ℕ)) (prices : List (List Fl
   left-of range level i = still range level d last i
 
   -- i to come next, with the run z under way where b
-  pub record Among (count : ℕ) (zb : List (List ℕ)) (zp : List (List Float)) (b : Bool) (z : Zone) (i : ℕ) : Type 0 where
+  pub record Scanning (count : ℕ) (zb : List (List ℕ)) (zp : List (List Float)) (b : Bool) (z : Zone) (i : ℕ) : Type 0 where
     pub few : count ≤ 256
     pub wide : Wide zb zp
     pub short : z .members ≤ i
     pub left : Each (λ range level. zonesIn count zb zp ++ runsFrom h b z (left-of range level i) ≡ goal range level)
 
-  pub starts-scan : (z : Zone) → z .members ≡ 0 → start ≤ 256 → Wide zb₀ zp₀ → Among start zb₀ zp₀ false z first
+  pub starts-scan : (z : Zone) → z .members ≡ 0 → start ≤ 256 → Wide zb₀ zp₀ → Scanning start zb₀ zp₀ false z first
   starts-scan z none-yet few wide =
       record {
         few = few;
@@ -101,12 +101,12 @@ module _ (h d first last : ℕ) (bars : List (List ℕ)) (prices : List (List Fl
         left = λ range level m inside t. ap (λ (l : List Zone). zonesIn start zb₀ zp₀ ++ l) (sym (scans range level h owner z (omega (arith, t .count))));
       }
 
-  module _ (count : ℕ) (zb : List (List ℕ)) (zp : List (List Float)) (b : Bool) (z : Zone) (i : ℕ) (now : Among count zb zp b z i) where
+  module _ (count : ℕ) (zb : List (List ℕ)) (zp : List (List Float)) (b : Bool) (z : Zone) (i : ℕ) (now : Scanning count zb zp b z i) where
     -- a record is passed over
     module _ (more : i ≤ last) where
       past :
           Each (λ range level. opposing (λ (x : Triple). range (getD level i no-triple)) d i (getD level i no-triple ∷ []) ≡ [])
-          → Among count zb zp b z (i + 1)
+          → Scanning count zb zp b z (i + 1)
       past none =
           record {
             few = now .few;
@@ -117,10 +117,10 @@ module _ (h d first last : ℕ) (bars : List (List ℕ)) (prices : List (List Fl
                 (now .left range level m inside t);
           }
 
-      pub past-same : getD (getD bars i []) 0 0 ≡ d → Among count zb zp b z (i + 1)
+      pub past-same : getD (getD bars i []) 0 0 ≡ d → Scanning count zb zp b z (i + 1)
       past-same e = past (λ range level m inside t. one-same _ d i _ (sym (member-way range level m bars prices t i (omega arith)) ∙ e))
 
-      pub past-missing : rangeIn (getD bars i []) (getD prices i []) ≡ Missing → Among count zb zp b z (i + 1)
+      pub past-missing : rangeIn (getD bars i []) (getD prices i []) ≡ Missing → Scanning count zb zp b z (i + 1)
       past-missing e = past (λ range level m inside t. one-missing _ d i _ (sym (member-range range level m bars prices t i (omega arith)) ∙ e))
 
       -- a member is taken: the run goes on, or is a zone, for which there is a place or none
@@ -137,10 +137,10 @@ module _ (h d first last : ℕ) (bars : List (List ℕ)) (prices : List (List Fl
             still-more range level d last i no-triple more (omega (arith, bigs .count)) ∙ rw here in
             rw (← f, took .1 (left-of range level (i + 1)), ← step) (now .left range level m inside bigs)
 
-        pub goes-on : closed ≡ false → Among count zb zp true y (i + 1)
+        pub goes-on : closed ≡ false → Scanning count zb zp true y (i + 1)
         goes-on f = record { few = now .few; wide = now .wide; short = omega (arith, took .0, now .short); left = onward false f }
 
-        pub puts-one : (zb' : List (List ℕ)) (zp' : List (List Float)) → closed ≡ true → (count ≡ 256 → ⊥) → Puts zoneIn count z zb zp zb' zp' → Among (count + 1) zb' zp' true y (i + 1)
+        pub puts-one : (zb' : List (List ℕ)) (zp' : List (List Float)) → closed ≡ true → (count ≡ 256 → ⊥) → Puts zoneIn count z zb zp zb' zp' → Scanning (count + 1) zb' zp' true y (i + 1)
         puts-one zb' zp' f room put =
             record {
               few = omega (arith, now .few);
