@@ -24,4 +24,6 @@ returns-4 c f ts size g =
     ends-all f ts _ _ size _ (at2 .before .if1 .left) (at2 .if2 .left) _ _ g (at3 .if3 .left) (c .classes-of .ensures)
 
 pub answer-spec : {M : Type 1} → statement M
-answer-spec = tie.close (tie.spec (search needs) returns returns-2 (search needs) returns-3 (search needs) returns-4)
+answer-spec =
+    tie.close
+    (tie.spec (λ c κs. search needs) returns returns-2 (λ c κs. search needs) returns-3 (λ c κs. search needs) returns-4)

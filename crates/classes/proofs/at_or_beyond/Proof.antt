@@ -8,4 +8,4 @@ returns : tie.Need-returns
 returns c = compared-at-or-beyond _ _ _ _ _ (c .before .by-direction .ensures) (c .by-direction2 .ensures)
 
 pub at-or-beyond-spec : {M : Type 1} → statement M
-at-or-beyond-spec = tie.close (tie.spec (search needs) (search needs) returns)
+at-or-beyond-spec = tie.close (tie.spec (λ c κs. search needs) (λ c κs. search needs) returns)

@@ -9,4 +9,4 @@ unfolding atOrBeyond atOrShort
 returns c = c .at-or-beyond .ensures
 
 pub at-or-short-spec : {M : Type 1} → statement M
-at-or-short-spec = tie.close (tie.spec (search needs) returns)
+at-or-short-spec = tie.close (tie.spec (λ c κs. search needs) returns)

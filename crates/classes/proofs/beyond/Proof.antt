@@ -8,4 +8,4 @@ returns : tie.Need-returns
 returns c = compared-beyond _ _ _ _ _ (c .before .by-direction .ensures) (c .by-direction2 .ensures)
 
 pub beyond-spec : {M : Type 1} → statement M
-beyond-spec = tie.close (tie.spec (search needs) (search needs) returns)
+beyond-spec = tie.close (tie.spec (λ c κs. search needs) (λ c κs. search needs) returns)

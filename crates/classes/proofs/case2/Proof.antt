@@ -80,5 +80,5 @@ returns-3 c =
 pub case2-spec : {M : Type 1} → statement M
 case2-spec =
     tie.close
-    (tie.spec Inv-loop μ-loop (search needs) (search needs) loop-holds (search needs) (search needs) (search needs) loop-again (search needs)
-    (search needs) returns returns-2 (search needs) (search needs) loop-again-2 returns-3)
+    (tie.spec Inv-loop μ-loop (λ c κs. search needs) (λ c. search needs) loop-holds (λ c κs. search needs) (λ c. search needs) (λ c. search needs)
+    loop-again (λ c κs. search needs) (λ c κs. search needs) returns returns-2 (λ c. search needs) (λ c. search needs) loop-again-2 returns-3)

@@ -14,4 +14,6 @@ returns-3 : tie.Need-returns-3
 returns-3 c = third-other _ _ _ _ (c .before .before .before .before .before .last .given .1) (c .before .if1 .left) (c .beyond .ensures)
 
 pub case3-spec : {M : Type 1} → statement M
-case3-spec = tie.close (tie.spec (search needs) (search needs) returns returns-2 (search needs) returns-3)
+case3-spec =
+    tie.close
+    (tie.spec (λ c. search needs) (λ c. search needs) returns returns-2 (λ c κs. search needs) returns-3)

@@ -40,4 +40,4 @@ returns-2 c =
 pub classify-big-segments-spec : {M : Type 1} → statement M
 classify-big-segments-spec =
     tie.close
-    (tie.spec (search needs) (search needs) returns items-of-requires answer-requires returns-2)
+    (tie.spec (λ c κs. search needs) (λ c κs. search needs) returns items-of-requires answer-requires returns-2)

@@ -16,4 +16,5 @@ returns-3 c = before-end _ _ _ _ (c .before .before .before .before .last .given
 pub ends-before-spec : {M : Type 1} → statement M
 ends-before-spec =
     tie.close
-    (tie.spec (search needs) (search needs) returns (search needs) (search needs) returns-2 (search needs) (search needs) returns-3)
+    (tie.spec (λ c. search needs) (λ c. search needs) returns (λ c. search needs) (λ c. search needs) returns-2 (λ c. search needs)
+    (λ c. search needs) returns-3)

@@ -79,5 +79,6 @@ returns-2 c =
 pub extend-spec : {M : Type 1} → statement M
 extend-spec =
     tie.close
-    (tie.spec Inv-loop μ-loop returns (search needs) (search needs) (search needs) loop-holds (search needs) (search needs) (search needs)
-    (search needs) loop-again (search needs) (search needs) (search needs) loop-again-2 returns-2)
+    (tie.spec Inv-loop μ-loop returns (λ c κs. search needs) (λ c κs. search needs) (λ c. search needs) loop-holds (λ c κs. search needs)
+    (λ c κs. search needs) (λ c. search needs) (λ c. search needs) loop-again (λ c κs. search needs) (λ c. search needs) (λ c. search needs)
+    loop-again-2 returns-2)

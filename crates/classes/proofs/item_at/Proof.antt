@@ -10,4 +10,6 @@ unfolding itemAt
 returns c = refl
 
 pub item-at-spec : {M : Type 1} → statement M
-item-at-spec = tie.close (tie.spec (search needs) (search needs) (search needs) (search needs) (search needs) returns)
+item-at-spec =
+    tie.close
+    (tie.spec (λ c. search needs) (λ c. search needs) (λ c. search needs) (λ c. search needs) (λ c. search needs) returns)

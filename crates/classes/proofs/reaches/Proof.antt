@@ -7,4 +7,4 @@ returns : tie.Need-returns
 returns c = rw (c .at-or-beyond .ensures)
 
 pub reaches-spec : {M : Type 1} → statement M
-reaches-spec = tie.close (tie.spec (search needs) returns)
+reaches-spec = tie.close (tie.spec (λ c κs. search needs) returns)

@@ -102,6 +102,7 @@ returns c =
 pub walk-spec : {M : Type 1} → statement M
 walk-spec =
     tie.close
-    (tie.spec Inv-loop μ-loop loop-holds (search needs) (search needs) (search needs) (search needs) loop-again (search needs) (search needs)
-    (search needs) (search needs) (search needs) (search needs) loop-again-2 (search needs) (search needs) (search needs) (search needs) add-next
-    (search needs) (search needs) loop-again-3 returns)
+    (tie.spec Inv-loop μ-loop loop-holds (λ c κs. search needs) (λ c κs. search needs) (λ c. search needs) (λ c. search needs) loop-again
+    (λ c κs. search needs) (λ c κs. search needs) (λ c. search needs) (λ c. search needs) (λ c. search needs) (λ c. search needs) loop-again-2
+    (λ c. search needs) (λ c. search needs) (λ c. search needs) (λ c. search needs) add-next (λ c. search needs) (λ c. search needs) loop-again-3
+    returns)

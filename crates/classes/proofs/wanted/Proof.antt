@@ -11,4 +11,4 @@ returns-2 : tie.Need-returns-2
 returns-2 c = wanted-after _ _ _ (c .before .before .before .last .given .1)
 
 pub wanted-spec : {M : Type 1} → statement M
-wanted-spec = tie.close (tie.spec (search needs) (search needs) returns returns-2)
+wanted-spec = tie.close (tie.spec (λ c. search needs) (λ c. search needs) returns returns-2)

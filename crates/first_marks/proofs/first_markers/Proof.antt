@@ -29,4 +29,4 @@ returns-2 c =
     c .marks-of .ensures ∙ marks-given _ _ _ _ _ (at .before .before .classify-sup-segments .ensures) (at .if1 .left) _
 
 pub first-markers-spec : {M : Type 1} → statement M
-first-markers-spec = tie.close (tie.spec (search needs) returns marks-of-requires returns-2)
+first-markers-spec = tie.close (tie.spec (λ c κs. search needs) returns marks-of-requires returns-2)

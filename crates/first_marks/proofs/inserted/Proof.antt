@@ -46,5 +46,6 @@ returns-2 c =
 pub inserted-spec : {M : Type 1} → statement M
 inserted-spec =
     tie.close
-    (tie.spec Inv-loop μ-loop loop-holds (search needs) (search needs) (search needs) returns (search needs) (search needs) loop-again (search needs)
-    (search needs) (search needs) (search needs) (search needs) loop-again-2 (search needs) (search needs) (search needs) returns-2)
+    (tie.spec Inv-loop μ-loop loop-holds (λ c. search needs) (λ c. search needs) (λ c. search needs) returns (λ c. search needs) (λ c. search needs)
+    loop-again (λ c. search needs) (λ c. search needs) (λ c. search needs) (λ c. search needs) (λ c. search needs) loop-again-2 (λ c. search needs)
+    (λ c. search needs) (λ c. search needs) returns-2)

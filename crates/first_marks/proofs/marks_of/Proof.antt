@@ -176,8 +176,9 @@ returns c =
 pub marks-of-spec : {M : Type 1} → statement M
 marks-of-spec =
     tie.close
-    (tie.spec Inv-loop μ-loop loop-holds (search needs) (search needs) (search needs) (search needs) (search needs) (search needs) (search needs)
-    (search needs) (search needs) (search needs) (search needs) loop-again (search needs) (search needs) element-copy-out-opening (search needs)
-    (search needs) element-copy-out-a (search needs) (search needs) element-copy-out-s (search needs) (search needs) element-copy-out-closing
-    (search needs) (search needs) element-copy-out-z (search needs) (search needs) element-copy-out-e (search needs) (search needs) (search needs)
-    loop-again-2 inserted-requires (search needs) (search needs) loop-again-3 returns)
+    (tie.spec Inv-loop μ-loop loop-holds (λ c. search needs) (λ c. search needs) (λ c. search needs) (λ c. search needs) (λ c. search needs)
+    (λ c. search needs) (λ c. search needs) (λ c. search needs) (λ c κs. search needs) (λ c. search needs) (λ c. search needs) loop-again
+    (λ c. search needs) (λ c. search needs) element-copy-out-opening (λ c. search needs) (λ c. search needs) element-copy-out-a (λ c. search needs)
+    (λ c. search needs) element-copy-out-s (λ c. search needs) (λ c. search needs) element-copy-out-closing (λ c. search needs) (λ c. search needs)
+    element-copy-out-z (λ c. search needs) (λ c. search needs) element-copy-out-e (λ c κs. search needs) (λ c. search needs) (λ c. search needs)
+    loop-again-2 inserted-requires (λ c. search needs) (λ c. search needs) loop-again-3 returns)

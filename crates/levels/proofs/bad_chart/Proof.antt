@@ -130,6 +130,7 @@ returns-7 c =
 pub bad-chart-spec : {M : Type 1} → statement M
 bad-chart-spec =
     tie.close
-    (tie.spec Inv-loop μ-loop Inv-loop2 μ-loop2 (search needs) returns wrong-triples-requires returns-2 wrong-triples-requires-2 returns-3
-    wrong-triples-requires-3 returns-4 loop-holds (search needs) (search needs) (search needs) (search needs) (search needs) (search needs) loop-again
-    returns-5 loop2-holds (search needs) (search needs) (search needs) (search needs) returns-6 (search needs) (search needs) loop2-again returns-7)
+    (tie.spec Inv-loop μ-loop Inv-loop2 μ-loop2 (λ c κs. search needs) returns wrong-triples-requires returns-2 wrong-triples-requires-2 returns-3
+    wrong-triples-requires-3 returns-4 loop-holds (λ c. search needs) (λ c. search needs) (λ c. search needs) (λ c κs. search needs)
+    (λ c. search needs) (λ c. search needs) loop-again returns-5 loop2-holds (λ c. search needs) (λ c. search needs) (λ c. search needs)
+    (λ c κs. search needs) returns-6 (λ c. search needs) (λ c. search needs) loop2-again returns-7)

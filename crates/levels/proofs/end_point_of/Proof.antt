@@ -68,5 +68,5 @@ returns-4 c =
 pub end-point-of-spec : {M : Type 1} → statement M
 end-point-of-spec =
     tie.close
-    (tie.spec returns (search needs) (search needs) returns-2 (search needs) (search needs) (search needs) returns-3 (search needs) (search needs)
-    (search needs) returns-4)
+    (tie.spec returns (λ c. search needs) (λ c. search needs) returns-2 (λ c. search needs) (λ c. search needs) (λ c. search needs) returns-3
+    (λ c. search needs) (λ c. search needs) (λ c. search needs) returns-4)

@@ -8,4 +8,4 @@ returns : tie.Need-returns
 returns c good = plain-prices _ (c .plain-product .ensures good)
 
 pub plain-prices-spec : {M : Type 1} → statement M
-plain-prices-spec = tie.close (tie.spec (search needs) returns)
+plain-prices-spec = tie.close (tie.spec (λ c κs. search needs) returns)

@@ -8,4 +8,4 @@ returns : tie.Need-returns
 returns c = right-by-test _ _ (c .plain-prices .ensures)
 
 pub plain-stroke-spec : {M : Type 1} → statement M
-plain-stroke-spec = tie.close (tie.spec (search needs) returns)
+plain-stroke-spec = tie.close (tie.spec (λ c κs. search needs) returns)

@@ -50,4 +50,4 @@ returns-5 c =
     )
 
 pub range-from-spec : {M : Type 1} → statement M
-range-from-spec = tie.close (tie.spec returns returns-2 returns-3 returns-4 (search needs) returns-5)
+range-from-spec = tie.close (tie.spec returns returns-2 returns-3 returns-4 (λ c κs. search needs) returns-5)

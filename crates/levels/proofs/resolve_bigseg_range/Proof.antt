@@ -19,4 +19,4 @@ unfolding rangeAnswer rangeCall
 returns-2 c = ap given (c .range-of .ensures) ∙ sym (on-good _ _ (sym (c .before .before .bad-chart .ensures) ∙ c .before .if1 .left))
 
 pub resolve-bigseg-range-spec : {M : Type 1} → statement M
-resolve-bigseg-range-spec = tie.close (tie.spec (search needs) returns range-of-requires returns-2)
+resolve-bigseg-range-spec = tie.close (tie.spec (λ c κs. search needs) returns range-of-requires returns-2)

@@ -19,4 +19,4 @@ unfolding endPointAnswer endPointCall
 returns-2 c = ap given (c .end-point-of .ensures) ∙ sym (on-good _ _ (sym (c .before .before .bad-chart .ensures) ∙ c .before .if1 .left))
 
 pub resolve-sup-end-point-spec : {M : Type 1} → statement M
-resolve-sup-end-point-spec = tie.close (tie.spec (search needs) returns end-point-of-requires returns-2)
+resolve-sup-end-point-spec = tie.close (tie.spec (λ c κs. search needs) returns end-point-of-requires returns-2)

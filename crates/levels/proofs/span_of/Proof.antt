@@ -9,4 +9,4 @@ unfolding spanned
 returns c = simp (c .before .lower .ensures, c .higher .ensures)
 
 pub span-of-spec : {M : Type 1} → statement M
-span-of-spec = tie.close (tie.spec (search needs) (search needs) returns)
+span-of-spec = tie.close (tie.spec (λ c κs. search needs) (λ c κs. search needs) returns)

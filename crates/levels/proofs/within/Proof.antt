@@ -12,4 +12,4 @@ returns : tie.Need-returns
 returns c = record { below = mod-lt _ (omega arith); same = λ h. mod-eq-of-lt h }
 
 pub within-spec : {M : Type 1} → statement M
-within-spec = tie.close (tie.spec (search needs) cast-result returns)
+within-spec = tie.close (tie.spec (λ c. search needs) cast-result returns)

@@ -9,4 +9,4 @@ unfolding wrongStroke badPrices
 returns c = rw (c .before .is-price .ensures, c .is-price2 .ensures)
 
 pub wrong-stroke-spec : {M : Type 1} → statement M
-wrong-stroke-spec = tie.close (tie.spec (search needs) (search needs) returns)
+wrong-stroke-spec = tie.close (tie.spec (λ c κs. search needs) (λ c κs. search needs) returns)

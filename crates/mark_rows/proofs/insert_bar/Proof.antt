@@ -51,5 +51,5 @@ returns-2 c =
 pub insert-bar-spec : {M : Type 1} → statement M
 insert-bar-spec =
     tie.close
-    (tie.spec start-at-requires bar-place-requires (search needs) (search needs) (search needs) (search needs) returns (search needs) (search needs)
-    (search needs) returns-2)
+    (tie.spec start-at-requires bar-place-requires (λ c. search needs) (λ c. search needs) (λ c. search needs) (λ c. search needs) returns
+    (λ c κs. search needs) (λ c. search needs) (λ c. search needs) returns-2)

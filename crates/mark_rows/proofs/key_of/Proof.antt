@@ -11,4 +11,4 @@ returns-2 : tie.Need-returns-2
 returns-2 c = key-sell _ _ (c .if1 .left)
 
 pub key-of-spec : {M : Type 1} → statement M
-key-of-spec = tie.close (tie.spec (search needs) (search needs) returns (search needs) returns-2)
+key-of-spec = tie.close (tie.spec (λ c. search needs) (λ c. search needs) returns (λ c. search needs) returns-2)

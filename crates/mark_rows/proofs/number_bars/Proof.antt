@@ -62,5 +62,5 @@ returns c =
 pub number-bars-spec : {M : Type 1} → statement M
 number-bars-spec =
     tie.close
-    (tie.spec Inv-loop μ-loop loop-holds (search needs) (search needs) number-bar-requires (search needs) (search needs) loop-again (search needs)
-    (search needs) returns)
+    (tie.spec Inv-loop μ-loop loop-holds (λ c. search needs) (λ c. search needs) number-bar-requires (λ c. search needs) (λ c. search needs)
+    loop-again (λ c. search needs) (λ c. search needs) returns)

@@ -18,4 +18,4 @@ returns-2 : tie.Need-returns-2
 returns-2 c = c .place-of .ensures .1
 
 pub place-near-spec : {M : Type 1} → statement M
-place-near-spec = tie.close (tie.spec (search needs) (search needs) returns place-of-requires returns-2)
+place-near-spec = tie.close (tie.spec (λ c. search needs) (λ c. search needs) returns place-of-requires returns-2)

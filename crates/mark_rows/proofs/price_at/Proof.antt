@@ -14,4 +14,6 @@ unfolding priceAt
 returns-2 c = rw (c .before .if1 .left) refl
 
 pub price-at-spec : {M : Type 1} → statement M
-price-at-spec = tie.close (tie.spec (search needs) (search needs) returns (search needs) (search needs) returns-2)
+price-at-spec =
+    tie.close
+    (tie.spec (λ c. search needs) (λ c. search needs) returns (λ c. search needs) (λ c. search needs) returns-2)

@@ -12,4 +12,6 @@ returns : tie.Need-returns
 returns c = c .before .before .before .before .put-row .ensures
 
 pub push-3n-spec : {M : Type 1} → statement M
-push-3n-spec = tie.close (tie.spec (search needs) put-row-requires (search needs) (search needs) returns)
+push-3n-spec =
+    tie.close
+    (tie.spec (λ c κs. search needs) put-row-requires (λ c. search needs) (λ c. search needs) returns)

@@ -19,4 +19,6 @@ returns : tie.Need-returns
 returns c = c .before .before .before .before .put-row .ensures
 
 pub push-near-spec : {M : Type 1} → statement M
-push-near-spec = tie.close (tie.spec place-near-requires put-row-requires (search needs) (search needs) returns)
+push-near-spec =
+    tie.close
+    (tie.spec place-near-requires put-row-requires (λ c. search needs) (λ c. search needs) returns)

@@ -8,4 +8,4 @@ returns : tie.Need-returns
 returns c = mark-is _ _ _ _ (c .price-at .ensures)
 
 pub row-of-spec : {M : Type 1} → statement M
-row-of-spec = tie.close (tie.spec (search needs) (search needs) (search needs) returns)
+row-of-spec = tie.close (tie.spec (λ c. search needs) (λ c κs. search needs) (λ c. search needs) returns)

@@ -21,4 +21,6 @@ returns-3 c =
     (omega arith, below-none _ _ _ _ (pre .0) (pre .1) (c .if1 .left))
 
 pub start-at-spec : {M : Type 1} → statement M
-start-at-spec = tie.close (tie.spec (search needs) (search needs) (search needs) returns returns-2 returns-3)
+start-at-spec =
+    tie.close
+    (tie.spec (λ c. search needs) (λ c. search needs) (λ c. search needs) returns returns-2 returns-3)
