@@ -27,5 +27,5 @@ returns-2 c =
 pub hex-of-spec : {M : Type 1} → statement M
 hex-of-spec =
     tie.close
-    (tie.spec (λ c. rw (sym (ne-nan _) ∙ c .if1 .taken)) (search needs) (λ c. rw (sym (ne-nan _) ∙ c .before .if1 .left) tt) (search needs)
-    returns-2)
+    (tie.spec (λ c. rw (sym (ne-nan _) ∙ c .if1 .taken)) (λ c. search needs) (λ c. rw (sym (ne-nan _) ∙ c .before .if1 .left) tt)
+    (λ c κs. search needs) returns-2)

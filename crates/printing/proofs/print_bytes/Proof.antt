@@ -10,4 +10,6 @@ slice-aggregate-write-all : tie.Need-slice-aggregate-write-all
 slice-aggregate-write-all c = let a = c .before .before .args in sym (length-take-le (a .n) (a .t1) (omega arith))
 
 pub print-bytes-spec : {M : Type 1} → statement M
-print-bytes-spec = tie.close (tie.spec (search needs) slice-aggregate-write-all (search needs) (search needs) (search needs) (search needs))
+print-bytes-spec =
+    tie.close
+    (tie.spec (λ c. search needs) slice-aggregate-write-all (λ c κs. search needs) (λ c. search needs) (λ c κs. search needs) (λ c. search needs))
