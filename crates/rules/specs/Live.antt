@@ -1,7 +1,7 @@
 -- A live chart also keeps its overlap zones and a count of accepted calls: what its calls answer, and what they leave.
 -- What a call answers, add stroke say, is read in this order: the conditions on one record and 21 (`Refusals`, its first two parts), the numbers
 -- of the call on lists (`Refusals.strokeRefusal`), the call's own number (`Machine.refusal`), 21 in front of it (`liveRefusal` here), and the
--- struct of the code (crate `live`, `Did.liveAnswer`). What it leaves: `Machine.stepped`, `after` here, `Did.stepped`. Assumes nothing.
+-- struct of the code (crate `live`, `Did.number`). What it leaves: `Machine.stepped`, `after` here, `Did.stepped`. Assumes nothing.
 use Prim.Native.Nat.{ℕ}
 use mathlib.Core.List.{List}
 use Rattle.chart.specs.declared.Zone.{Zone}
