@@ -10,8 +10,7 @@ use lib.Dec.{T, eqb}
 use lib.Ieee.{Float, binary64, fits, toBits}
 use borrow.Author.Tests.{eqb-true, not-false}
 use Rattle.price.specs.Price.{isPrice, Price}
-use Rattle.price.specs.Bytes.{priceBits}
-use Rattle.price.proofs.Bits.{bits-price}
+use Rattle.price.proofs.KeyOf.{same-bits}
 use Rattle.price.proofs.Order.{price-fits}
 use Rattle.chart.specs.declared.Zone.{Zone}
 use Rattle.rules.specs.Lists.{any}
@@ -31,7 +30,7 @@ no-price a b f p h = go (eqb (toBits binary64 a) (toBits binary64 b)) refl
     go : (t : Bool) → eqb (toBits binary64 a) (toBits binary64 b) ≡ t → false ≡ t
     go true e =
         let bits = eqb-true (toBits binary64 a) (toBits binary64 b) e in
-        sym h ∙ sym (bits-price a f) ∙ ap priceBits bits ∙ bits-price b (price-fits b p) ∙ p
+        sym h ∙ ap isPrice (same-bits binary64 a b f (price-fits b p) bits) ∙ p
     go false e = refl
 
 -- ---- a zone's prices

@@ -3,7 +3,7 @@ use Prim.Native.Nat.{ℕ, zero, suc, _^_, _<_}
 use native.Mathlib.Nat.{pow-suc}
 use native.Mathlib.Omega.{arith}
 use mathlib.Core.Path.{_≡_, refl, ap, _∙_}
-use mathlib.Core.Bool.{Bool, false, cond, not, _||_}
+use mathlib.Core.Bool.{Bool, false, not, _||_}
 use mathlib.Core.List.{List, _++_, append-assoc}
 use lib.ListN.{length, take, length-append}
 use lib.Dec.{leb}
@@ -13,10 +13,8 @@ use borrow.Author.Tests.{ltb-false, leb-false, lt-leb, not-false}
 use Rattle.chart.specs.declared.Stroke.{Stroke}
 use Rattle.chart.specs.declared.Triple.{Triple}
 use Rattle.price.specs.Price.{isPrice}
-use Rattle.price.specs.Bytes.{bytesOf, ofBytes, priceBytes, readBits}
-use Rattle.price.specs.declared.PriceRead.the-variants.{Price, NotPrice}
+use Rattle.price.specs.Bytes.{bytesOf, ofBytes, priceBytes}
 use Rattle.price.proofs.Order.{price-fits}
-use Rattle.price.proofs.Bits.{price-bits}
 use Rattle.price.proofs.Bytes.{ofBytes-bytesOf}
 use Rattle.rules.specs.Text.{ascii}
 use Rattle.rules.specs.Refusals.{refuse, aboveOne, badPrices}
@@ -167,11 +165,6 @@ ofBytes-lt (suc k) (cons b B) = rw (pow-suc 256 k) (omega (arith, ofBytes-lt k B
 pub number-lt : {l : List ℕ} (i k : ℕ) → All Byte l → number i k l < 256 ^ k
 unfolding number
 number-lt i k B = ofBytes-lt k (all-drop i B)
-
--- the price in a record is the one that the library reads from its bits
-pub price-read : (i : ℕ) (l : List ℕ) → All Byte l → readBits (number i 8 l) ≡ cond (isPrice (price i l)) (Price (price i l)) NotPrice
-unfolding readBits price
-price-read i l B = rw (price-bits (number i 8 l) (number-lt i 8 B))
 
 narrow-two : (l : List ℕ) → All Byte l → wideTwo (number 1 2 l) (number 3 2 l) ≡ false
 narrow-two l B = or-i _ _ (lt-leb 65536 (number 1 2 l) (number-lt 1 2 B)) (lt-leb 65536 (number 3 2 l) (number-lt 3 2 B))

@@ -88,12 +88,6 @@ module _ (s : List ℕ) where
   unfolding number ofBytes
   two-at i h = let j : suc i ≤ length s = omega arith in rw (drop-cons s i 0 j, drop-cons s (suc i) 0 h) (omega arith)
 
-pub triple-read :
-    (s : List ℕ) (a b : ℕ) → 5 ≤ length s → a ≡ getD s 1 0 + 256 * getD s 2 0 → b ≡ getD s 3 0 + 256 * getD s 4 0
-    → record { direction = getD s 0 0; first = a; last = b } ≡ tripleIn s
-unfolding tripleIn
-triple-read s a b h e f = rw (one-at s 0 (omega arith), two-at s 1 (omega arith), two-at s 3 h, e, f)
-
 -- the stroke that begins so
 abbrev pub strokeOf : Triple → Float → Float → Stroke
 strokeOf t x y = record { direction = t .direction; «start_bar» = t .first; «end_bar» = t .last; «start_price» = x; «end_price» = y }

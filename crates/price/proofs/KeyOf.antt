@@ -51,7 +51,7 @@ scale-is l (pos k) h = mul-one (2 ^ (l + k)) ∙ pow-add 2 l k ∙ mul-comm (2 ^
 scale-is l (negsuc k) h = sym (pow-add 2 (l - suc k) (suc k)) ∙ ap (λ (x : ℕ). 2 ^ x) (fill l k (exp-le (suc k) l h)) ∙ sym (one-mul (2 ^ l))
 
 -- ---- two Bool tests that follow from one another are equal
-pub same : (p q : Bool) → (T p → T q) → (T q → T p) → p ≡ q
+same : (p q : Bool) → (T p → T q) → (T q → T p) → p ≡ q
 same true true f g = refl
 same true false f g = absurd (f tt)
 same false true f g = absurd (g tt)
@@ -219,7 +219,7 @@ bits-by-mag f s m n e d h k g =
     quot : (f : Format) (s : Bool) (m : ℕ) (e : ℤ) → T (fits f (fin s m e)) → m * up e * 2 ^ low f / down e ≡ m * scale (low f) e
     quot f s m e h = ap (λ (z : ℕ). z / down e) (mag-is f s m e h) ∙ mul-div-cancel (m * scale (low f) e) (down-pos e)
 
-same-bits : (f : Format) (x y : Float) → T (fits f x) → T (fits f y) → toBits f x ≡ toBits f y → x ≡ y
+pub same-bits : (f : Format) (x y : Float) → T (fits f x) → T (fits f y) → toBits f x ≡ toBits f y → x ≡ y
 same-bits f x y h k g = sym (ofBits-toBits f x h) ∙ ap (λ (b : ℕ). Ieee.ofBits f b) g ∙ ofBits-toBits f y k
 
 scale-pos : (l : ℕ) (e : ℤ) → 0 < scale l e

@@ -52,6 +52,6 @@ unfolding records.levelsOf
     calls.onChart calls.rangeCall calls.endPointCall calls.zonesCall calls.labelsCall calls.thirdCall calls.nCall
     calls.segmentClassesCall calls.bigClassesCall calls.firstMarksCall
     price.isPrice price.allPrices price.lower price.higher
-    bytes.bytesOf bytes.ofBytes bytes.readBits
+    bytes.bytesOf bytes.ofBytes
     ieee.lt ieee.le ieee.eq ieee.ofInt ieee.toBits ieee.ofBits ieee.fits
 everything = 0
