@@ -10,6 +10,7 @@ use lib.Dec.{eqb}
 use borrow.Author.Tests.{eqb-true, eqb-false, ne-eqb}
 use Rattle.chart.specs.declared.Chart.{Chart}
 use Rattle.rules.specs.Lists.{isEmpty}
+use Rattle.laws.proofs.Arrays.{Sized}
 use Rattle.laws.proofs.Answers.{Counted}
 
 module _ {A : Type 0} where
@@ -46,6 +47,5 @@ pub record Long (c : Chart) : Type 0 where
   pub bigs : c .«big_count» ≤ length (c .bigs)
   pub superiors : c .«superior_count» ≤ length (c .superiors)
 
-pub long-of :
-    (c : Chart) → Counted c → length (c .strokes) ≡ 512 → length (c .segments) ≡ 256 → length (c .bigs) ≡ 256 → length (c .superiors) ≡ 256 → Long c
-long-of c f s g b u = record { strokes = omega arith; segments = omega arith; bigs = omega arith; superiors = omega arith }
+pub long-of : (c : Chart) → Counted c → Sized c → Long c
+long-of c f s = record { strokes = omega arith; segments = omega arith; bigs = omega arith; superiors = omega arith }

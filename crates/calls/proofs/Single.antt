@@ -6,20 +6,11 @@ use mathlib.Core.Option.{Option, none, some}
 use lib.Dec.{eqb, leb, ltb}
 use lib.Ieee.{lt, eq}
 use borrow.Author.Tests.{lt-ltb, le-ltb, le-leb, lt-leb, eq-eqb, ne-eqb}
-use Rattle.price.specs.Price.{isPrice}
 use Rattle.chart.specs.declared.Stroke.{Stroke}
 use Rattle.chart.specs.declared.Triple.{Triple}
-use Rattle.rules.specs.Refusals.{badPrices, badStroke, unjoined, badTriple}
+use Rattle.rules.specs.Refusals.{badStroke, unjoined, badTriple}
 
 module _ (s : Stroke) where
-  pub prices-start : isPrice (s .«start_price») ≡ false → true ≡ badPrices s
-  unfolding badPrices
-  prices-start e = rw e
-
-  pub prices-end : isPrice (s .«start_price») ≡ true → not (isPrice (s .«end_price»)) ≡ badPrices s
-  unfolding badPrices
-  prices-end e = rw e
-
   pub stroke-bars : s .«end_bar» ≤ s .«start_bar» → true ≡ badStroke s
   unfolding badStroke
   stroke-bars h = rw (le-leb _ _ h)

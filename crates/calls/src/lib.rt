@@ -11,20 +11,10 @@ ghost use lib.ListN.{length, take};
 ghost use lib.Dec.{eqb};
 ghost use Rattle.chart.specs.declared.Triple.{Triple};
 ghost use Rattle.rules.specs.Records.{levelsOf};
-ghost use Rattle.rules.specs.Refusals.{refuse, badPrices, badStroke, unjoined, badTriple, overfull, held, brokenStrokes, brokenTriples, brokenLevels};
+ghost use Rattle.rules.specs.Refusals.{refuse, badStroke, unjoined, badTriple, overfull, held, brokenStrokes, brokenTriples, brokenLevels};
 ghost use Rattle.rules.specs.Refusals.{strokeRefusal, tripleRefusal, lengthenRefusal, withdrawRefusal, deriveRefusal};
 
 // ---- one record
-
-// 1 of a stroke: a price that isn't one.
-fn bad_prices(s: Stroke) -> bool
-    ensures { λ r. ⌜ r ≡ badPrices s ⌝ }
-{
-    if price::is_price(s.start_price) {
-        return !price::is_price(s.end_price);
-    }
-    true
-}
 
 // 4 of a stroke: start bar ≥ end bar, or up without end > start, or down without end < start.
 fn bad_stroke(s: Stroke) -> bool
@@ -207,7 +197,7 @@ pub fn stroke_refusal(chart: Chart, s: Stroke) -> u8
     first_of(
         512 <= n,
         1 < s.direction,
-        bad_prices(s),
+        price::wrong_prices(s.start_price, s.end_price),
         bad_stroke(s),
         false,
         unjoined_from(n, p, s),

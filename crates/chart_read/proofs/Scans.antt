@@ -39,6 +39,8 @@ use Rattle.rules.specs.File.{
   readFile,
 }
 use Rattle.laws.proofs.Tests.{length-snoc}
+use Rattle.laws.proofs.Answers.{Counted}
+use Rattle.laws.proofs.Arrays.{Sized, sized-via}
 use Rattle.laws.proofs.FileSteps.{refused-given, readBehind, read-two, accepted, at-end, at-refused, at-given}
 use Rattle.laws.proofs.FileCode.{Room, stored, levels-stored, part}
 use Rattle.chart_read.specs.declared.Counts.{Counts}
@@ -79,24 +81,14 @@ refused-above f (a ∷ b ∷ s) k e = behind-above f s (kindOf a b) k (sym (read
 
 -- ---- a chart whose counts are within its arrays
 
-pub record Sized (c : Chart) : Type 0 where
-  pub strokes : length (c .strokes) ≡ 512
-  pub segments : length (c .segments) ≡ 256
-  pub bigs : length (c .bigs) ≡ 256
-  pub superiors : length (c .superiors) ≡ 256
-  pub stroke-few : c .«stroke_count» ≤ 512
-  pub segment-few : c .«segment_count» ≤ 256
-  pub big-few : c .«big_count» ≤ 256
-  pub superior-few : c .«superior_count» ≤ 256
-
-pub sized-fits : (c : Chart) → Sized c → overfull c ≡ false
+counted-fits : (c : Chart) → Counted c → overfull c ≡ false
 unfolding overfull
-sized-fits c s =
+counted-fits c k =
     rw (
-      le-ltb 512 (c .«stroke_count») (s .stroke-few),
-      le-ltb 256 (c .«segment_count») (s .segment-few),
-      le-ltb 256 (c .«big_count») (s .big-few),
-      le-ltb 256 (c .«superior_count») (s .superior-few),
+      le-ltb 512 (c .«stroke_count») (k .strokes),
+      le-ltb 256 (c .«segment_count») (k .segments),
+      le-ltb 256 (c .«big_count») (k .bigs),
+      le-ltb 256 (c .«superior_count») (k .superiors),
     )
 
 module _ (c : Chart) (bars n : ℕ) where
@@ -134,61 +126,30 @@ module _ (c : Chart) (bars n : ℕ) where
   room (superior t) z f = omega arith
   room (bar h l) z f = tt
 
-  sized-stored : (r : Record) → Sized c → Free r → Sized (stored c r)
-  sized-stored (stroke s) z f =
-      record {
-        strokes = simp length-set (z .strokes);
-        segments = z .segments;
-        bigs = z .bigs;
-        superiors = z .superiors;
-        stroke-few = omega arith;
-        segment-few = z .segment-few;
-        big-few = z .big-few;
-        superior-few = z .superior-few;
-      }
-  sized-stored (segment t) z f =
-      record {
-        strokes = z .strokes;
-        segments = simp length-set (z .segments);
-        bigs = z .bigs;
-        superiors = z .superiors;
-        stroke-few = z .stroke-few;
-        segment-few = omega arith;
-        big-few = z .big-few;
-        superior-few = z .superior-few;
-      }
-  sized-stored (big t) z f =
-      record {
-        strokes = z .strokes;
-        segments = z .segments;
-        bigs = simp length-set (z .bigs);
-        superiors = z .superiors;
-        stroke-few = z .stroke-few;
-        segment-few = z .segment-few;
-        big-few = omega arith;
-        superior-few = z .superior-few;
-      }
-  sized-stored (superior t) z f =
-      record {
-        strokes = z .strokes;
-        segments = z .segments;
-        bigs = z .bigs;
-        superiors = simp length-set (z .superiors);
-        stroke-few = z .stroke-few;
-        segment-few = z .segment-few;
-        big-few = z .big-few;
-        superior-few = omega arith;
-      }
-  sized-stored (bar h l) z f = z
+  sized-stored : (r : Record) → Sized c → Sized (stored c r)
+  sized-stored (stroke s) z = sized-via _ (simp length-set (z .strokes)) (z .segments) (z .bigs) (z .superiors)
+  sized-stored (segment t) z = sized-via _ (z .strokes) (simp length-set (z .segments)) (z .bigs) (z .superiors)
+  sized-stored (big t) z = sized-via _ (z .strokes) (z .segments) (simp length-set (z .bigs)) (z .superiors)
+  sized-stored (superior t) z = sized-via _ (z .strokes) (z .segments) (z .bigs) (simp length-set (z .superiors))
+  sized-stored (bar h l) z = z
+
+  counted-stored : (r : Record) → Counted c → Free r → Counted (stored c r)
+  counted-stored (stroke s) k f = record { strokes = omega arith; segments = k .segments; bigs = k .bigs; superiors = k .superiors }
+  counted-stored (segment t) k f = record { strokes = k .strokes; segments = omega arith; bigs = k .bigs; superiors = k .superiors }
+  counted-stored (big t) k f = record { strokes = k .strokes; segments = k .segments; bigs = omega arith; superiors = k .superiors }
+  counted-stored (superior t) k f = record { strokes = k .strokes; segments = k .segments; bigs = k .bigs; superiors = omega arith }
+  counted-stored (bar h l) k f = k
 
   -- the test is the definition's
-  agree : (q : Quotes) → Sized c → length (q .highs) ≡ bars → (k : Kind) → fullBy countsOf k ≡ full n (record { levels = levelsOf c; bars = q }) k
+  agree :
+      (q : Quotes) → Sized c → Counted c → length (q .highs) ≡ bars → (k : Kind)
+      → fullBy countsOf k ≡ full n (record { levels = levelsOf c; bars = q }) k
   unfolding fullBy full levelsOf
-  agree q z e ST = rw (length-take-le (c .«stroke_count») (c .strokes) (omega arith))
-  agree q z e SG = rw (length-take-le (c .«segment_count») (c .segments) (omega arith))
-  agree q z e BG = rw (length-take-le (c .«big_count») (c .bigs) (omega arith))
-  agree q z e SU = rw (length-take-le (c .«superior_count») (c .superiors) (omega arith))
-  agree q z e BR = rw e
+  agree q z k e ST = rw (length-take-le (c .«stroke_count») (c .strokes) (omega arith))
+  agree q z k e SG = rw (length-take-le (c .«segment_count») (c .segments) (omega arith))
+  agree q z k e BG = rw (length-take-le (c .«big_count») (c .bigs) (omega arith))
+  agree q z k e SU = rw (length-take-le (c .«superior_count») (c .superiors) (omega arith))
+  agree q z k e BR = rw e
 
 -- one bar more, where the record is one
 abbrev pub barsAfter : ℕ → Record → ℕ
@@ -204,6 +165,7 @@ pub record Reached (n : ℕ) (bytes : List ℕ) (c : Chart) (bars at : ℕ) : Ty
   pub quotes : Quotes
   pub many : length (quotes .highs) ≡ bars
   pub sized : Sized c
+  pub few : Counted c
   pub left : readFrom n at (record { levels = levelsOf c; bars = quotes }) 0 (drop at bytes) ≡ readFile n bytes
 
 bars-many : (bars : ℕ) (d : Content) (r : Record) → length (d .bars .highs) ≡ bars → length (append d r .bars .highs) ≡ barsAfter bars r
@@ -218,7 +180,9 @@ pub begins :
     (n : ℕ) (bytes : List ℕ) (c : Chart) → Sized c → c .«stroke_count» ≡ 0 → c .«segment_count» ≡ 0 → c .«big_count» ≡ 0
     → c .«superior_count» ≡ 0 → Reached n bytes c 0 0
 unfolding levelsOf readFile nothing
-begins n bytes c z s g b u = record { quotes = record { highs = []; lows = [] }; many = refl; sized = z; left = rw (s, g, b, u) }
+begins n bytes c z s g b u =
+    let few : Counted c = record { strokes = omega arith; segments = omega arith; bigs = omega arith; superiors = omega arith } in
+    record { quotes = record { highs = []; lows = [] }; many = refl; sized = z; few = few; left = rw (s, g, b, u) }
 
 -- a turn, where o is the record at the place, or its refusal
 pub record Turn (n : ℕ) (bytes : List ℕ) (c : Chart) (bars at : ℕ) (o : Head) : Type 0 where
@@ -237,7 +201,8 @@ module _ {n : ℕ} {bytes : List ℕ} {c : Chart} {bars at : ℕ} {o : Head} (w 
   unfolding content
   by-content a e =
       let i = w .reached in
-      sym (same-full (fullBy (countsOf c bars n)) (full n content) (drop at bytes) (agree c bars n (i .quotes) (i .sized) (i .many))) ∙ by-counts a e
+      sym (same-full (fullBy (countsOf c bars n)) (full n content) (drop at bytes) (agree c bars n (i .quotes) (i .sized) (i .few) (i .many)))
+      ∙ by-counts a e
 
   -- a refusal ends the scan
   pub stops : (k : ℕ) → answerOf o ≡ refused k → (d : Chart) (m : ℕ) → counted k at d m ≡ countBars (readFile n bytes)
@@ -263,7 +228,8 @@ module _ {n : ℕ} {bytes : List ℕ} {c : Chart} {bars at : ℕ} {o : Head} (w 
       record {
         quotes = append content r .bars;
         many = bars-many bars content r (i .many);
-        sized = sized-stored c bars n r (i .sized) f;
+        sized = sized-stored c bars n r (i .sized);
+        few = counted-stored c bars n r (i .few) f;
         left =
             rw (t, levels-stored c (i .quotes) r (room c bars n r (i .sized) f))
             (sym (at-given n at content bytes r (by-content (given r) e)) ∙ i .left);
@@ -279,4 +245,4 @@ pub ends :
     → counted 0 0 c bars ≡ countBars (readFile n bytes)
 unfolding counted countBars
 ends n bytes c bars at i h =
-    rw (sized-fits c (i .sized), ← i .many) (ap countBars (sym (at-end n at (record { levels = levelsOf c; bars = i .quotes }) bytes h) ∙ i .left))
+    rw (counted-fits c (i .few), ← i .many) (ap countBars (sym (at-end n at (record { levels = levelsOf c; bars = i .quotes }) bytes h) ∙ i .left))

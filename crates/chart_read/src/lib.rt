@@ -3,10 +3,9 @@ use chart::Chart;
 use chart::Stroke;
 use chart::Triple;
 ghost use mathlib.Core.Path.{_≡_};
-ghost use mathlib.Core.Bool.{true, not, _||_};
+ghost use mathlib.Core.Bool.{true};
 ghost use Prim.Native.Nat.{_≤_};
 ghost use lib.ListN.{length};
-ghost use Rattle.price.specs.Price.{isPrice};
 ghost use Rattle.rules.specs.File.{ST, BR, kindOf, width, readRecord, readFile, readCall, slicesAfter};
 ghost use Rattle.chart_read.specs.Loaded.{loaded};
 ghost use Rattle.chart_read.specs.Heads.{levelKind, kindBy, markedBy, answerOf, checked, fullBy, countBars, counted, isGiven};
@@ -136,16 +135,6 @@ fn is_full(counts: Counts, m: Mark) -> bool
     }
 }
 
-// 1 of a record: a price that isn't one.
-fn wrong_prices(a: f64, b: f64) -> bool
-    ensures { λ r. ⌜ r ≡ (not (isPrice a) || not (isPrice b)) ⌝ }
-{
-    if price::is_price(a) {
-        return !price::is_price(b);
-    }
-    true
-}
-
 // The triple of a level in the bytes behind a mark, where its direction is one.
 fn checked_triple(s: &[u8], l: Level) -> Head
     requires { ⌜ 5 ≤ length (now s) ⌝ }
@@ -167,7 +156,7 @@ fn checked_stroke(s: &[u8]) -> Head
     if 1 < stroke.direction {
         return Head::Refused(2);
     }
-    if wrong_prices(stroke.start_price, stroke.end_price) {
+    if price::wrong_prices(stroke.start_price, stroke.end_price) {
         return Head::Refused(1);
     }
     Head::Stroke(stroke)
@@ -180,7 +169,7 @@ fn checked_bar(s: &[u8]) -> Head
 {
     let high = fields::price_at(s, 0);
     let low = fields::price_at(s, 8);
-    if wrong_prices(high, low) {
+    if price::wrong_prices(high, low) {
         return Head::Refused(1);
     }
     Head::Bar(high, low)

@@ -18,6 +18,7 @@ use Rattle.rules.specs.Refusals.{refuse, wrongStroke, wrongTriple, overfull, ba
 use Rattle.rules.specs.File.{Record, stroke, segment, big, superior, recordBytes, barRecords, recordsOf, written, writeRefusal, writeCall, bufferAfter}
 use Rattle.laws.proofs.Lists.{each-append}
 use Rattle.laws.proofs.Tests.{or-l, or-r, refuse-no, refuse-on}
+use Rattle.laws.proofs.Arrays.{Sized}
 use Rattle.laws.proofs.Answers.{counted}
 use Rattle.laws.proofs.FileLong.{used, length-written}
 use Rattle.chart_write.specs.Put.{putAt, marked, levelBytes}
@@ -101,19 +102,13 @@ short-bars room size bars h = go (ltb ((room - size) / 18) bars) refl
     go true e = let l = ltb-true ((room - size) / 18) bars e in sym (lt-ltb room (size + 18 * bars) (omega arith))
     go false e = let l = ltb-false ((room - size) / 18) bars e in sym (le-ltb room (size + 18 * bars) (omega arith))
 
--- the arrays of a chart
-pub record Long (c : Chart) : Type 0 where
-  pub strokes : length (c .strokes) ≡ 512
-  pub segments : length (c .segments) ≡ 256
-  pub bigs : length (c .bigs) ≡ 256
-  pub superiors : length (c .superiors) ≡ 256
-
+-- how many bytes its levels take
 abbrev pub sizeOf : Chart → ℕ
 sizeOf c = 23 * c .«stroke_count» + 7 * c .«segment_count» + 7 * c .«big_count» + 7 * c .«superior_count»
 
 module _ (c : Chart) (q : Quotes) where
   written-size :
-      Long c → badChart c ≡ false → length (q .highs) ≡ length (q .lows) → length (written (levelsOf c) q) ≡ sizeOf c + 18 * length (q .highs)
+      Sized c → badChart c ≡ false → length (q .highs) ≡ length (q .lows) → length (written (levelsOf c) q) ≡ sizeOf c + 18 * length (q .highs)
   unfolding used levelsOf
   written-size l good e =
       let n = counted c good in
@@ -132,7 +127,7 @@ module _ (c : Chart) (q : Quotes) where
 
   -- the size by counts decides as the bytes do
   refusal-is :
-      (buffer : List ℕ) → Long c
+      (buffer : List ℕ) → Sized c
       → refuse (badChart c) 21 (refuse (unequal q) 8 (refuse (badQuotes q) 1 (refuse (ltb (length buffer) (sizeOf c + 18 * length (q .highs))) 3 0)))
       ≡ writeRefusal c q buffer
   unfolding writeRefusal refuse
@@ -147,7 +142,7 @@ module _ (c : Chart) (q : Quotes) where
       go false e false f = rw (written-size l e (equal-slices f))
 
   pub refusal-by :
-      (buffer : List ℕ) (r size : ℕ) (bad wrong short : Bool) → Long c
+      (buffer : List ℕ) (r size : ℕ) (bad wrong short : Bool) → Sized c
       → r ≡ refuse bad 21 (refuse (not (eqb (length (q .highs)) (length (q .lows)))) 8 (refuse wrong 1 (refuse short 3 0)))
       → bad ≡ badChart c → wrong ≡ badQuotes q → size ≡ sizeOf c → short ≡ ltb (length buffer) (size + 18 * length (q .highs))
       → r ≡ writeRefusal c q buffer

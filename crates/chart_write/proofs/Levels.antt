@@ -1,23 +1,22 @@
 -- The records of a level that are left from place i on: the next one, and none. Assumes nothing.
-use Prim.Native.Nat.{ℕ, zero, suc, _+_, _≤_, _<_}
+use Prim.Native.Nat.{ℕ, _+_, _≤_, _<_}
 use native.Mathlib.Omega.{arith}
 use native.Mathlib.Numerals.{add-one}
 use mathlib.Core.Path.{_≡_, refl, ap}
-use mathlib.Core.Bool.{true, false}
-use mathlib.Core.List.{List, [], _∷_, map}
+use mathlib.Core.Bool.{false}
+use mathlib.Core.List.{List, [], map}
 use lib.ListN.{length, getD, take, drop, drop-of-length-le}
 use lib.Seq.{drop-cons}
 use lib.Ieee.{Float, nan}
 use Rattle.chart.specs.declared.Stroke.{Stroke}
 use Rattle.chart.specs.declared.Triple.{Triple}
-use Rattle.price.specs.Price.{isPrice, Price, allPrices}
 use Rattle.price.specs.Bytes.{bytesOf}
 use Rattle.rules.specs.Lists.{any, each}
 use Rattle.rules.specs.Refusals.{badPrices, wrongStroke, aboveOne}
 use Rattle.rules.specs.File.{stroke, bar, kind, width, tripleBytes, recordBytes, barRecords}
 use Rattle.laws.proofs.FileBytes.{length-record}
 use Rattle.laws.proofs.Lists.{any-at}
-use Rattle.laws.proofs.Tests.{or-r, and-l, and-r}
+use Rattle.laws.proofs.Tests.{or-r}
 use Rattle.laws.proofs.Arrays.{at-in, left-more, left-none}
 use Rattle.levels.proofs.Read.{no-stroke, no-triple}
 use Rattle.chart_write.specs.Put.{marked}
@@ -80,9 +79,3 @@ module _ (i : ℕ) (hs ls : List Float) (e : length hs ≡ length ls) where
   pub bar-none : length hs ≤ i → each recordBytes (barRecords (drop i hs) (drop i ls)) ≡ []
   unfolding barRecords
   bar-none k = rw (drop-of-length-le hs {i = i} k)
-
-pub price-at : (l : List Float) (i : ℕ) → allPrices l ≡ true → i < length l → Price (getD l i nan)
-unfolding allPrices
-price-at [] i e h = absurd (omega arith)
-price-at (x ∷ l) zero e h = and-l (isPrice x) (allPrices l) e
-price-at (x ∷ l) (suc i) e h = price-at l i (and-r (isPrice x) (allPrices l) e) (omega arith)

@@ -26,7 +26,7 @@ ghost use Rattle.levels.specs.Read.{SafeIndex, rangeFrom};
 fn wrong_stroke(s: Stroke) -> bool
     ensures { λ r. ⌜ r ≡ wrongStroke s ⌝ }
 {
-    (1 < s.direction) | (!price::is_price(s.start_price) | !price::is_price(s.end_price))
+    (1 < s.direction) | price::wrong_prices(s.start_price, s.end_price)
 }
 
 // Whether the product of a stroke's prices shows that both are prices. It has no branch, so that a loop tests several strokes at a time.

@@ -1,14 +1,14 @@
 -- What is printed of a chart, by the mark call's answer. Assumes nothing.
-use Prim.Native.Nat.{ℕ, zero, suc, _≤_}
-use native.Mathlib.Omega.{arith}
-use mathlib.Core.Path.{_≡_, refl, sym, ap, _∙_}
+use Prim.Native.Nat.{ℕ, _≤_}
+use mathlib.Core.Path.{_≡_, sym, ap, _∙_}
 use mathlib.Core.Bool.{Bool, true, false, not}
-use mathlib.Core.List.{List, [], _∷_}
+use mathlib.Core.List.{List}
 use mathlib.Core.Option.{some}
 use lib.ListN.{length, take, getElem?}
-use lib.Ieee.{Float}
+use lib.Ieee.{Float, nan}
 use borrow.Author.Tests.{not-false}
 use Rattle.price.specs.Price.{isPrice, allPrices}
+use Rattle.price.proofs.Lists.{price-at}
 use Rattle.chart.specs.declared.NMark.{NMark}
 use Rattle.chart.specs.declared.Chart.{Chart}
 use Rattle.rules.specs.Answer.{answered, rowsAnswer}
@@ -18,20 +18,16 @@ use Rattle.rules.specs.Marks.{side, quote, nMarks}
 use Rattle.rules.specs.Refusals.{refuse, badChart, badSlices, badQuotes, endsOutside, zonesRefusal, nRefusal}
 use Rattle.rules.specs.Calls.{nCall}
 use Rattle.rules.specs.Text.{marksText, refusedLine}
-use Rattle.rules.specs.File.{Content, marksOf}
-use Rattle.laws.proofs.Tests.{none-some, or-l, or-r, and-l, and-r, refuse-no, refuse-on}
-use Rattle.laws.proofs.Lists.{all-map, false-any}
+use Rattle.rules.specs.File.{marksOf}
+use Rattle.laws.proofs.Tests.{or-l, or-r, refuse-no, refuse-on}
+use Rattle.laws.proofs.Lists.{all-map, false-any, at-lt, at-getD}
 use Rattle.laws.proofs.Answers.{on-good, answered-refused, Rows, rows-given, rows-refused}
 use Rattle.laws.proofs.Quoted.{marks-quoted}
 
 -- ---- the price of every mark is a price: it is a lent one
 
-price-at : (l : List Float) (i : ℕ) (x : Float) → allPrices l ≡ true → getElem? l i ≡ some x → not (isPrice x) ≡ false
-unfolding allPrices
-price-at [] zero x a e = absurd (none-some e)
-price-at [] (suc i) x a e = absurd (none-some e)
-price-at (y ∷ l) zero x a e = let z : y ≡ x = cc in ap not (ap isPrice (sym z) ∙ and-l (isPrice y) (allPrices l) a)
-price-at (y ∷ l) (suc i) x a e = price-at l i x (and-r (isPrice y) (allPrices l) a) e
+lent-price : (l : List Float) (i : ℕ) (x : Float) → allPrices l ≡ true → getElem? l i ≡ some x → not (isPrice x) ≡ false
+lent-price l i x a e = ap not (ap isPrice (sym (at-getD l i nan x e)) ∙ price-at l i a (at-lt l i x e))
 
 side-prices : (q : Quotes) (buy : Bool) → badQuotes q ≡ false → allPrices (side q buy) ≡ true
 unfolding badQuotes
@@ -43,7 +39,7 @@ unfolding nRefusal quote
 marks-priced l q h =
     let r9 = refuse (endsOutside l q) 9 (zonesRefusal l) in
     let lent = refuse-no (badQuotes q) 0 r9 (refuse-on (badSlices q) 7 (refuse (badQuotes q) 1 r9) h) in
-    false-any _ (all-map (λ m e. price-at (side q (m .«is_buy»)) (m .«bar_index») (m .price) (side-prices q (m .«is_buy») lent) e) (marks-quoted l q h))
+    false-any _ (all-map (λ m e. lent-price (side q (m .«is_buy»)) (m .«bar_index») (m .price) (side-prices q (m .«is_buy») lent) e) (marks-quoted l q h))
 
 -- ---- the call's answer, on a chart that is not refused with 21
 

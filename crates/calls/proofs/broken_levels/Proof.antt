@@ -1,7 +1,6 @@
 -- `calls::broken_levels` meets its contract. Assumes nothing.
 use mathlib.Core.Path.{sym, _∙_}
-use Rattle.rules.specs.Refusals.{overfull}
-use Rattle.laws.proofs.Arrays.{length-via}
+use Rattle.laws.proofs.Arrays.{length-via, sized-via}
 use Rattle.laws.proofs.Answers.{Counted, counts}
 use Rattle.calls.proofs.Last.{Long, long-of}
 use Rattle.calls.proofs.Broken.{levels-strokes, levels-segments, levels-bigs, levels-superiors}
@@ -13,8 +12,7 @@ fits : (c : tie.Start) → Counted (c .args .chart)
 fits c = counts (c .args .chart) (c .pre)
 
 long : (c : tie.Start) → Long (c .args .chart)
-long c =
-    long-of _ (fits c) (search (needs, length-via)) (search (needs, length-via)) (search (needs, length-via)) (search (needs, length-via))
+long c = long-of _ (fits c) (search (needs, length-via, sized-via))
 
 broken-strokes-requires : tie.Need-broken-strokes-requires
 broken-strokes-requires c κs = fits c .strokes

@@ -4,7 +4,7 @@ use native.Mathlib.Omega.{arith}
 use mathlib.Core.Path.{_≡_, _∙_}
 use lib.ListN.{length}
 use Rattle.rules.specs.Records.{levelsOf}
-use Rattle.rules.specs.Refusals.{overfull}
+use Rattle.rules.specs.Refusals.{badPrices}
 use Rattle.laws.proofs.Arrays.{length-via}
 use Rattle.laws.proofs.Answers.{counts}
 use Rattle.calls.proofs.Chain.{stroke-number}
@@ -27,8 +27,8 @@ mul-p c = search needs
 element-copy-out-p : tie.Need-element-copy-out-p
 element-copy-out-p c = omega (arith, c .last-place .ensures, fits (c .before))
 
-bad-prices-requires : tie.Need-bad-prices-requires
-bad-prices-requires c κs = search needs
+wrong-prices-requires : tie.Need-wrong-prices-requires
+wrong-prices-requires c κs = search needs
 
 bad-stroke-requires : tie.Need-bad-stroke-requires
 bad-stroke-requires c κs = search needs
@@ -40,14 +40,14 @@ first-of-requires : tie.Need-first-of-requires
 first-of-requires c κs = search needs
 
 returns : tie.Need-returns
-unfolding levelsOf
+unfolding levelsOf badPrices
 returns c =
     let joined = c .before in
     let ordered = joined .before in
     let priced = ordered .before in
     let placed = priced .before .before .before in
     c .first-of .ensures
-    ∙ stroke-number _ _ _ _ _ _ _ (long (placed .before)) (placed .last-place .ensures) (priced .bad-prices .ensures) (ordered .bad-stroke .ensures)
+    ∙ stroke-number _ _ _ _ _ _ _ (long (placed .before)) (placed .last-place .ensures) (priced .wrong-prices .ensures) (ordered .bad-stroke .ensures)
     (joined .unjoined-from .ensures)
 
 pub stroke-refusal-spec : {M : Type 1} → statement M
@@ -57,7 +57,7 @@ stroke-refusal-spec =
     last-place-requires
     mul-p
     element-copy-out-p
-    bad-prices-requires
+    wrong-prices-requires
     bad-stroke-requires
     unjoined-from-requires
     first-of-requires

@@ -3,8 +3,7 @@ use native.Mathlib.Omega.{arith}
 use mathlib.Core.Path.{_≡_, refl, _∙_}
 use borrow.Author.Tests.{eq-eqb, ne-eqb}
 use Rattle.rules.specs.Records.{levelsOf}
-use Rattle.rules.specs.Refusals.{overfull}
-use Rattle.laws.proofs.Arrays.{length-via}
+use Rattle.laws.proofs.Arrays.{length-via, sized-via}
 use Rattle.laws.proofs.Answers.{Counted, counts}
 use Rattle.calls.proofs.Last.{Long, long-of, empty-taken}
 use Rattle.calls.proofs.Chain.{refuse-here, refuse-later, under, of-strokes, of-segments, of-bigs, of-superiors, of-no-level}
@@ -22,8 +21,7 @@ third : (c : tie.Else4) → start c .args .level ≡ 3
 third c = omega arith
 
 long : (c : tie.Start) → Long (c .args .chart)
-long c =
-    long-of _ (fits c) (search (needs, length-via)) (search (needs, length-via)) (search (needs, length-via)) (search (needs, length-via))
+long c = long-of _ (fits c) (search (needs, length-via, sized-via))
 
 under-refusal-requires : tie.Need-under-refusal-requires
 under-refusal-requires c κs = fits (c .before .before) .segments

@@ -7,10 +7,10 @@ use borrow.Author.Needs.{needs}
 use Rattle.chart.specs.declared.Triple.{Triple}
 use Rattle.rules.specs.File.{kind, width, stroke, segment, big, superior}
 use Rattle.rules.specs.Answer.{given}
-use Rattle.laws.proofs.Arrays.{length-via}
+use Rattle.laws.proofs.Arrays.{length-via, Sized, sized-via}
 use Rattle.chart_read.specs.Heads.{answerOf}
 use Rattle.chart_read.specs.declared.Level.the-variants as level
-use Rattle.chart_read.proofs.Scans.{Sized, Reached, begins, Turn, stops, has-place, goes-on, triple-is, ends}
+use Rattle.chart_read.proofs.Scans.{Reached, begins, Turn, stops, has-place, goes-on, triple-is, ends}
 use Rattle.chart_read.proofs.scan.Statement.{statement}
 use Rattle.chart_read.proofs.scan.Tie as tie
 
@@ -21,17 +21,7 @@ abbrev μ-loop : tie.MeasureT-loop
 μ-loop bytes places chart₀ bars₀ at₀ chart bars at = length bytes - at
 
 sized : (c : tie.After-no-chart Inv-loop μ-loop) → Sized (c .no-chart .result)
-sized c =
-    record {
-      strokes = search (needs, length-via);
-      segments = search (needs, length-via);
-      bigs = search (needs, length-via);
-      superiors = search (needs, length-via);
-      stroke-few = omega arith;
-      segment-few = omega arith;
-      big-few = omega arith;
-      superior-few = omega arith;
-    }
+sized c = search (needs, length-via, sized-via)
 
 abbrev at-loop : tie.After-head-of Inv-loop μ-loop → tie.At-loop Inv-loop μ-loop
 at-loop c = c .before .before .before

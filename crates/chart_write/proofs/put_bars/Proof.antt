@@ -3,8 +3,9 @@
 use Prim.Native.Nat.{_≤_, _-_}
 use native.Mathlib.Omega.{arith}
 use lib.ListN.{length, drop}
+use Rattle.price.proofs.Lists.{price-at}
 use Rattle.rules.specs.Lists.{each}
-use Rattle.chart_write.proofs.Levels.{bar-next, bar-none, price-at}
+use Rattle.chart_write.proofs.Levels.{bar-next, bar-none}
 use Rattle.chart_write.proofs.Put.{Writing, begun, room-next, written-next, ended}
 use Rattle.rules.specs.File.{recordBytes, barRecords}
 use borrow.Author.Needs.{needs}

@@ -1,18 +1,12 @@
 -- `chart_write::refusal` meets its contract. Assumes nothing.
-use Rattle.laws.proofs.Arrays.{length-via}
-use Rattle.chart_write.proofs.Call.{Long, refusal-by}
+use Rattle.laws.proofs.Arrays.{length-via, Sized, sized-via}
+use Rattle.chart_write.proofs.Call.{refusal-by}
 use borrow.Author.Needs.{needs}
 use Rattle.chart_write.proofs.refusal.Statement.{statement}
 use Rattle.chart_write.proofs.refusal.Tie as tie
 
-long : (c : tie.Start) → Long (c .args .chart)
-long c =
-    record {
-      strokes = search (needs, length-via);
-      segments = search (needs, length-via);
-      bigs = search (needs, length-via);
-      superiors = search (needs, length-via);
-    }
+sized : (c : tie.Start) → Sized (c .args .chart)
+sized c = search (needs, length-via, sized-via)
 
 levels-size-requires : tie.Need-levels-size-requires
 levels-size-requires c κs = search needs
@@ -35,7 +29,7 @@ returns c =
     let wrong = short .before in
     let bad = wrong .before in
     let size = bad .before in
-    refusal-by _ _ _ _ _ _ _ _ (long (size .before .before .before .before)) (c .first-of .ensures) (bad .bad-chart .ensures)
+    refusal-by _ _ _ _ _ _ _ _ (sized (size .before .before .before .before)) (c .first-of .ensures) (bad .bad-chart .ensures)
     (wrong .bad-quotes .ensures) (size .levels-size .ensures) (short .too-short .ensures)
 
 pub refusal-spec : {M : Type 1} → statement M
