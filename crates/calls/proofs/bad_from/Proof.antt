@@ -13,13 +13,10 @@ returns c =
     let at1 = c .before in
     sym (triple-first _) ∙ behind-none (λ (o : Option Triple). badTriple o (at1 .before .args .t)) _ _ (at1 .if1 .taken)
 
-bad-triple-requires : tie.Need-bad-triple-requires
-bad-triple-requires c κs = search needs
-
 returns-2 : tie.Need-returns-2
 returns-2 c =
     let at1 = c .before in
     c .bad-triple .ensures ∙ behind-one (λ (o : Option Triple). badTriple o (at1 .before .args .t)) _ _ (at1 .if1 .left)
 
 pub bad-from-spec : {M : Type 1} → statement M
-bad-from-spec = tie.close (tie.spec returns bad-triple-requires returns-2)
+bad-from-spec = tie.close (tie.spec returns (search needs) returns-2)

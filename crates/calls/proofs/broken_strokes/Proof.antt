@@ -36,12 +36,6 @@ returns : tie.Need-returns Inv-loop μ-loop
 unfolding levelsOf
 returns c = each-none _ _ _ each-stroke none _ 0 _ (long (c .before)) (omega (arith, c .if1 .taken))
 
-element-copy-out-p : tie.Need-element-copy-out-p Inv-loop μ-loop
-element-copy-out-p c = search needs
-
-bad-stroke-requires : tie.Need-bad-stroke-requires Inv-loop μ-loop
-bad-stroke-requires c κs = search needs
-
 returns-2 : tie.Need-returns-2 Inv-loop μ-loop
 unfolding levelsOf
 returns-2 c =
@@ -57,27 +51,12 @@ loop-holds c =
           (join-first _)),
     )
 
-cast-next : tie.Need-cast-next Inv-loop μ-loop
-cast-next c = search needs
-
-mul-next : tie.Need-mul-next Inv-loop μ-loop
-mul-next c = search needs
-
-element-copy-out-next : tie.Need-element-copy-out-next Inv-loop μ-loop
-element-copy-out-next c = search needs
-
-bad-stroke-requires-2 : tie.Need-bad-stroke-requires-2 Inv-loop μ-loop
-bad-stroke-requires-2 c κs = search needs
-
 returns-3 : tie.Need-returns-3 Inv-loop μ-loop
 returns-3 c =
     let in-loop = c .before .before .before in
     let head = in-loop .before in
     each-first _ _ _ each-stroke _ _ (head .loop .i) _ (long (start head)) no-stroke (inside in-loop)
     (sym (c .before .bad-stroke2 .ensures) ∙ c .if3 .taken) ∙ head .loop .inv .1
-
-unjoined-requires : tie.Need-unjoined-requires Inv-loop μ-loop
-unjoined-requires c κs = search needs
 
 returns-4 : tie.Need-returns-4 Inv-loop μ-loop
 returns-4 c =
@@ -86,12 +65,6 @@ returns-4 c =
     let head = in-loop .before in
     each-second _ _ _ each-stroke _ _ (head .loop .i) _ (long (start head)) no-stroke (inside in-loop)
     (sym (at3 .before .bad-stroke2 .ensures) ∙ at3 .if3 .left) (sym (c .before .unjoined .ensures) ∙ c .if4 .taken) ∙ head .loop .inv .1
-
-add-i : tie.Need-add-i Inv-loop μ-loop
-add-i c = search needs
-
-loop-less : tie.Need-loop-less Inv-loop μ-loop
-loop-less c = search needs
 
 loop-again : tie.Need-loop-again Inv-loop μ-loop
 loop-again c =
@@ -111,22 +84,5 @@ returns-5 c =
 pub broken-strokes-spec : {M : Type 1} → statement M
 broken-strokes-spec =
     tie.close
-    (tie.spec
-    Inv-loop
-    μ-loop
-    returns
-    element-copy-out-p
-    bad-stroke-requires
-    returns-2
-    loop-holds
-    cast-next
-    mul-next
-    element-copy-out-next
-    bad-stroke-requires-2
-    returns-3
-    unjoined-requires
-    returns-4
-    add-i
-    loop-less
-    loop-again
-    returns-5)
+    (tie.spec Inv-loop μ-loop returns (search needs) (search needs) returns-2 loop-holds (search needs) (search needs) (search needs)
+    (search needs) returns-3 (search needs) returns-4 (search needs) (search needs) loop-again returns-5)

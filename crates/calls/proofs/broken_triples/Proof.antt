@@ -34,9 +34,6 @@ inside c = omega (arith, c .loop-test .taken)
 returns : tie.Need-returns Inv-loop μ-loop
 returns c = each-none _ _ _ (each-triple _) none _ 0 _ (long (c .before)) (omega (arith, c .if1 .taken))
 
-array-copy-out-p : tie.Need-array-copy-out-p Inv-loop μ-loop
-array-copy-out-p c = search needs
-
 returns-2 : tie.Need-returns-2 Inv-loop μ-loop
 returns-2 c =
     let at1 = c .before .before .before in
@@ -59,18 +56,6 @@ loop-holds c =
           (triple-first _ ∙ le-ltb _ _ (at2 .if2 .left)) (lt-leb _ _ (c .if3 .left))),
     )
 
-cast-t : tie.Need-cast-t Inv-loop μ-loop
-cast-t c = search needs
-
-mul-t : tie.Need-mul-t Inv-loop μ-loop
-mul-t c = search needs
-
-array-copy-out-t : tie.Need-array-copy-out-t Inv-loop μ-loop
-array-copy-out-t c = search needs
-
-bad-triple-requires : tie.Need-bad-triple-requires Inv-loop μ-loop
-bad-triple-requires c κs = search needs
-
 returns-4 : tie.Need-returns-4 Inv-loop μ-loop
 returns-4 c =
     let in-loop = c .before .before .before in
@@ -85,12 +70,6 @@ returns-5 c =
     let head = in-loop .before in
     each-second _ _ _ (each-triple _) _ _ (head .loop .k) _ (long (start head)) no-triple (inside in-loop)
     (sym (at4 .before .bad-triple .ensures) ∙ at4 .if4 .left) (le-leb _ _ (c .if5 .taken)) ∙ head .loop .inv .1
-
-add-k : tie.Need-add-k Inv-loop μ-loop
-add-k c = search needs
-
-loop-less : tie.Need-loop-less Inv-loop μ-loop
-loop-less c = search needs
 
 loop-again : tie.Need-loop-again Inv-loop μ-loop
 loop-again c =
@@ -110,21 +89,5 @@ returns-6 c =
 pub broken-triples-spec : {M : Type 1} → statement M
 broken-triples-spec =
     tie.close
-    (tie.spec
-    Inv-loop
-    μ-loop
-    returns
-    array-copy-out-p
-    returns-2
-    returns-3
-    loop-holds
-    cast-t
-    mul-t
-    array-copy-out-t
-    bad-triple-requires
-    returns-4
-    returns-5
-    add-k
-    loop-less
-    loop-again
-    returns-6)
+    (tie.spec Inv-loop μ-loop returns (search needs) returns-2 returns-3 loop-holds (search needs) (search needs) (search needs) (search needs)
+    returns-4 returns-5 (search needs) (search needs) loop-again returns-6)

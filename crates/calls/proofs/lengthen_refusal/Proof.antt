@@ -17,18 +17,6 @@ long c = omega arith
 returns : tie.Need-returns
 returns c = lengthen-none _ _ _ (last-none _ _ (c .if1 .taken))
 
-sub-present : tie.Need-sub-present
-sub-present c = search needs
-
-cast-present : tie.Need-cast-present
-cast-present c = search needs
-
-mul-present : tie.Need-mul-present
-mul-present c = search needs
-
-element-copy-out-present : tie.Need-element-copy-out-present
-element-copy-out-present c = search needs
-
 returns-2 : tie.Need-returns-2
 returns-2 c =
     let at1 = c .before in
@@ -49,14 +37,4 @@ returns-4 c =
     (refuse-later _ 5 0 0 (lt-leb _ _ (c .if3 .left)) refl))
 
 pub lengthen-refusal-spec : {M : Type 1} → statement M
-lengthen-refusal-spec =
-    tie.close
-    (tie.spec
-    returns
-    sub-present
-    cast-present
-    mul-present
-    element-copy-out-present
-    returns-2
-    returns-3
-    returns-4)
+lengthen-refusal-spec = tie.close (tie.spec returns (search needs) (search needs) (search needs) (search needs) returns-2 returns-3 returns-4)

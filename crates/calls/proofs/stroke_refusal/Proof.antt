@@ -18,26 +18,8 @@ fits c = counts (c .args .t1) (c .pre) .strokes
 long : (c : tie.Start) → c .args .t1 .«stroke_count» ≤ length (c .args .t1 .strokes)
 long c = let size : length (c .args .t1 .strokes) ≡ 512 = search (needs, length-via) in omega (arith, fits c)
 
-last-place-requires : tie.Need-last-place-requires
-last-place-requires c κs = search needs
-
-mul-p : tie.Need-mul-p
-mul-p c = search needs
-
 element-copy-out-p : tie.Need-element-copy-out-p
 element-copy-out-p c = omega (arith, c .last-place .ensures, fits (c .before))
-
-wrong-prices-requires : tie.Need-wrong-prices-requires
-wrong-prices-requires c κs = search needs
-
-bad-stroke-requires : tie.Need-bad-stroke-requires
-bad-stroke-requires c κs = search needs
-
-unjoined-from-requires : tie.Need-unjoined-from-requires
-unjoined-from-requires c κs = search needs
-
-first-of-requires : tie.Need-first-of-requires
-first-of-requires c κs = search needs
 
 returns : tie.Need-returns
 unfolding levelsOf badPrices
@@ -53,12 +35,4 @@ returns c =
 pub stroke-refusal-spec : {M : Type 1} → statement M
 stroke-refusal-spec =
     tie.close
-    (tie.spec
-    last-place-requires
-    mul-p
-    element-copy-out-p
-    wrong-prices-requires
-    bad-stroke-requires
-    unjoined-from-requires
-    first-of-requires
-    returns)
+    (tie.spec (search needs) (search needs) element-copy-out-p (search needs) (search needs) (search needs) (search needs) returns)

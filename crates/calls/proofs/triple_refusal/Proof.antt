@@ -11,21 +11,6 @@ use Rattle.calls.proofs.triple_refusal.Tie as tie
 long : (c : tie.Start) → c .args .n ≤ length (c .args .t1)
 long c = omega arith
 
-last-place-requires : tie.Need-last-place-requires
-last-place-requires c κs = search needs
-
-mul-p : tie.Need-mul-p
-mul-p c = search needs
-
-array-copy-out-p : tie.Need-array-copy-out-p
-array-copy-out-p c = search needs
-
-bad-from-requires : tie.Need-bad-from-requires
-bad-from-requires c κs = search needs
-
-first-of-requires : tie.Need-first-of-requires
-first-of-requires c κs = search needs
-
 returns : tie.Need-returns
 returns c =
     let ordered = c .before .before in
@@ -34,12 +19,4 @@ returns c =
     ∙ triple-number _ _ _ _ _ _ (long (placed .before)) (placed .last-place .ensures) (ordered .bad-from .ensures)
 
 pub triple-refusal-spec : {M : Type 1} → statement M
-triple-refusal-spec =
-    tie.close
-    (tie.spec
-    last-place-requires
-    mul-p
-    array-copy-out-p
-    bad-from-requires
-    first-of-requires
-    returns)
+triple-refusal-spec = tie.close (tie.spec (search needs) (search needs) (search needs) (search needs) (search needs) returns)

@@ -21,21 +21,6 @@ returns-2 : tie.Need-returns-2
 returns-2 c =
     refuse-later _ 7 _ 0 (ne-eqb _ _ (c .before .if1 .left)) (refuse-later _ 6 0 0 (held-none _ _ (last-none _ _ (c .if2 .taken))) refl)
 
-sub-last : tie.Need-sub-last
-sub-last c = search needs
-
-cast-last : tie.Need-cast-last
-cast-last c = search needs
-
-mul-last : tie.Need-mul-last
-mul-last c = search needs
-
-element-copy-out-last : tie.Need-element-copy-out-last
-element-copy-out-last c = search needs
-
-sub-own : tie.Need-sub-own
-sub-own c = search needs
-
 returns-3 : tie.Need-returns-3
 returns-3 c =
     let at2 = c .before in
@@ -53,13 +38,4 @@ returns-4 c =
 pub under-refusal-spec : {M : Type 1} → statement M
 under-refusal-spec =
     tie.close
-    (tie.spec
-    returns
-    returns-2
-    sub-last
-    cast-last
-    mul-last
-    element-copy-out-last
-    sub-own
-    returns-3
-    returns-4)
+    (tie.spec returns returns-2 (search needs) (search needs) (search needs) (search needs) (search needs) returns-3 returns-4)

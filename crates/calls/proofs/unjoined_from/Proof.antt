@@ -11,13 +11,10 @@ use Rattle.calls.proofs.unjoined_from.Tie as tie
 returns : tie.Need-returns
 returns c = sym (join-first _) ∙ behind-none (λ (o : Option Stroke). unjoined o (c .before .args .s)) _ _ (c .if1 .taken)
 
-unjoined-requires : tie.Need-unjoined-requires
-unjoined-requires c κs = search needs
-
 returns-2 : tie.Need-returns-2
 returns-2 c =
     let at1 = c .before in
     c .unjoined .ensures ∙ behind-one (λ (o : Option Stroke). unjoined o (at1 .before .args .s)) _ _ (at1 .if1 .left)
 
 pub unjoined-from-spec : {M : Type 1} → statement M
-unjoined-from-spec = tie.close (tie.spec returns unjoined-requires returns-2)
+unjoined-from-spec = tie.close (tie.spec returns (search needs) returns-2)

@@ -5,15 +5,6 @@ use Rattle.chart_read.proofs.RecordKinds.{bar-prices, bar-given}
 use Rattle.chart_read.proofs.checked_bar.Statement.{statement}
 use Rattle.chart_read.proofs.checked_bar.Tie as tie
 
-price-at-requires : tie.Need-price-at-requires
-price-at-requires c κs = search needs
-
-price-at-requires-2 : tie.Need-price-at-requires-2
-price-at-requires-2 c κs = search needs
-
-wrong-prices-requires : tie.Need-wrong-prices-requires
-wrong-prices-requires c κs = search needs
-
 returns : tie.Need-returns
 returns c =
     let test = c .before in
@@ -25,6 +16,4 @@ returns-2 c =
     bar-given _ _ _ (test .before .before .price-at .ensures) (test .before .price-at2 .ensures) (sym (test .wrong-prices .ensures) ∙ c .if1 .left)
 
 pub checked-bar-spec : {M : Type 1} → statement M
-checked-bar-spec =
-    tie.close
-    (tie.spec price-at-requires price-at-requires-2 wrong-prices-requires returns returns-2)
+checked-bar-spec = tie.close (tie.spec (search needs) (search needs) (search needs) returns returns-2)

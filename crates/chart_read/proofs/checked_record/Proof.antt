@@ -17,14 +17,8 @@ unfolding width
 checked-stroke-requires c κs =
     omega (arith, ap (λ (k : Mark). width (kindBy k)) (c .enum-told .given .1))
 
-enum-known-m : tie.Need-enum-known-m
-enum-known-m c = search needs
-
 checked-triple-requires : tie.Need-checked-triple-requires
 checked-triple-requires c κs = omega (arith, level-width _ _ (c .before .m .given .1))
-
-enum-told-2 : tie.Need-enum-told-2
-enum-told-2 c = search needs
 
 checked-bar-requires : tie.Need-checked-bar-requires
 unfolding width
@@ -43,13 +37,5 @@ returns-3 c = rw (c .before .enum-told2 .given .1) (c .checked-bar .ensures)
 pub checked-record-spec : {M : Type 1} → statement M
 checked-record-spec =
     tie.close
-    (tie.spec
-    enum-told
-    checked-stroke-requires
-    enum-known-m
-    checked-triple-requires
-    enum-told-2
-    checked-bar-requires
-    returns
-    returns-2
+    (tie.spec enum-told checked-stroke-requires (search needs) checked-triple-requires (search needs) checked-bar-requires returns returns-2
     returns-3)

@@ -7,27 +7,22 @@ use Rattle.rules.specs.Refusals.{badPrices}
 use Rattle.chart_read.proofs.checked_stroke.Statement.{statement}
 use Rattle.chart_read.proofs.checked_stroke.Tie as tie
 
-stroke-in-requires : tie.Need-stroke-in-requires
-stroke-in-requires c κs = search needs
-
 returns : tie.Need-returns
 returns c = stroke-direction _ _ (c .before .before .stroke-in .ensures) (lt-ltb _ _ (c .if1 .taken))
-
-wrong-prices-requires : tie.Need-wrong-prices-requires
-wrong-prices-requires c κs = search needs
 
 returns-2 : tie.Need-returns-2
 unfolding badPrices
 returns-2 c =
     let test = c .before in
-    stroke-prices _ _ (test .before .before .before .stroke-in .ensures) (le-ltb _ _ (test .before .if1 .left)) (sym (test .wrong-prices .ensures) ∙ c .if2 .taken)
+    stroke-prices _ _ (test .before .before .before .stroke-in .ensures) (le-ltb _ _ (test .before .if1 .left))
+    (sym (test .wrong-prices .ensures) ∙ c .if2 .taken)
 
 returns-3 : tie.Need-returns-3
 unfolding badPrices
 returns-3 c =
     let test = c .before in
-    stroke-given _ _ (test .before .before .before .stroke-in .ensures) (le-ltb _ _ (test .before .if1 .left)) (sym (test .wrong-prices .ensures) ∙ c .if2 .left)
+    stroke-given _ _ (test .before .before .before .stroke-in .ensures) (le-ltb _ _ (test .before .if1 .left))
+    (sym (test .wrong-prices .ensures) ∙ c .if2 .left)
 
 pub checked-stroke-spec : {M : Type 1} → statement M
-checked-stroke-spec =
-    tie.close (tie.spec stroke-in-requires returns wrong-prices-requires returns-2 returns-3)
+checked-stroke-spec = tie.close (tie.spec (search needs) returns (search needs) returns-2 returns-3)

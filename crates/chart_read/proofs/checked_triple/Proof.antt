@@ -5,9 +5,6 @@ use Rattle.chart_read.proofs.RecordKinds.{triple-direction, triple-give
 use Rattle.chart_read.proofs.checked_triple.Statement.{statement}
 use Rattle.chart_read.proofs.checked_triple.Tie as tie
 
-triple-in-requires : tie.Need-triple-in-requires
-triple-in-requires c κs = search needs
-
 returns : tie.Need-returns
 returns c = triple-direction _ _ (c .before .before .triple-in .ensures) (c .before .before .before .before .args .l) (lt-ltb _ _ (c .if1 .taken))
 
@@ -15,4 +12,4 @@ returns-2 : tie.Need-returns-2
 returns-2 c = triple-given _ _ (c .before .before .triple-in .ensures) (c .before .before .before .before .args .l) (le-ltb _ _ (c .if1 .left))
 
 pub checked-triple-spec : {M : Type 1} → statement M
-checked-triple-spec = tie.close (tie.spec triple-in-requires returns returns-2)
+checked-triple-spec = tie.close (tie.spec (search needs) returns returns-2)

@@ -1,4 +1,4 @@
--- `chart_read::fill_bars` meets its contract. The invariant: what is left to read of the accepted file, and the bars so far in the first places. Assumes nothing.
+-- `chart_read::fill_bars` meets its contract. The invariant: what is left of the accepted file, and the bars so far in the first places. Assumes nothing.
 use Prim.Native.Nat.{_-_, _<_}
 use native.Mathlib.Omega.{arith}
 use mathlib.Core.Path.{_≡_, ap}
@@ -51,56 +51,17 @@ place c = bar-place (turn (arm c)) _ _ (bar-read c)
 loop-holds : tie.Need-loop-holds Inv-loop μ-loop
 loop-holds c = filling-begins _ _ _
 
-sub-head-of : tie.Need-sub-head-of Inv-loop μ-loop
-sub-head-of c = search needs
-
-part-head-of-start : tie.Need-part-head-of-start Inv-loop μ-loop
-part-head-of-start c = search needs
-
-part-head-of-end : tie.Need-part-head-of-end Inv-loop μ-loop
-part-head-of-end c = search needs
-
-head-of-requires : tie.Need-head-of-requires Inv-loop μ-loop
-head-of-requires c κs = search needs
-
 enum-told : tie.Need-enum-told Inv-loop μ-loop
 enum-told c = search needs
-
-same-length : tie.Need-same-length Inv-loop μ-loop
-same-length c = search needs
-
-same-length-2 : tie.Need-same-length-2 Inv-loop μ-loop
-same-length-2 c = search needs
 
 returns : tie.Need-returns Inv-loop μ-loop
 returns c = absurd (no-refusal (turn (c .before .before)) _ (ap answerOf (c .enum-told .given .1)))
 
-enum-told-2 : tie.Need-enum-told-2 Inv-loop μ-loop
-enum-told-2 c = search needs
-
-add-at : tie.Need-add-at Inv-loop μ-loop
-add-at c = search needs
-
-loop-less : tie.Need-loop-less Inv-loop μ-loop
-loop-less c = search needs
-
 loop-again : tie.Need-loop-again Inv-loop μ-loop
 loop-again c = fill-stroke (turn (c .before .before)) _ (ap answerOf (c .enum-told2 .given .1))
 
-enum-told-3 : tie.Need-enum-told-3 Inv-loop μ-loop
-enum-told-3 c = search needs
-
-add-at-2 : tie.Need-add-at-2 Inv-loop μ-loop
-add-at-2 c = search needs
-
-loop-less-2 : tie.Need-loop-less-2 Inv-loop μ-loop
-loop-less-2 c = search needs
-
 loop-again-2 : tie.Need-loop-again-2 Inv-loop μ-loop
 loop-again-2 c = fill-triple (turn (c .before .before)) (c .enum-told3 .given .0 .0) (c .enum-told3 .given .0 .1 .0) (ap answerOf (c .enum-told3 .given .1))
-
-enum-known-head : tie.Need-enum-known-head Inv-loop μ-loop
-enum-known-head c = search needs
 
 mul-highs : tie.Need-mul-highs Inv-loop μ-loop
 mul-highs c = record { fits = omega (arith, place c, start (arm c) .good .1 .0) }
@@ -117,20 +78,8 @@ slice-write-lows c = omega (arith, place c, at-loop (arm c) .loop .inv .low-size
 add-bars : tie.Need-add-bars Inv-loop μ-loop
 add-bars c = record { fits = omega (arith, place c, start (arm c) .good .1 .0) }
 
-add-at-3 : tie.Need-add-at-3 Inv-loop μ-loop
-add-at-3 c = search needs
-
-loop-less-3 : tie.Need-loop-less-3 Inv-loop μ-loop
-loop-less-3 c = search needs
-
 loop-again-3 : tie.Need-loop-again-3 Inv-loop μ-loop
 loop-again-3 c = fill-bar (turn (arm c)) _ _ (bar-read c)
-
-same-length-3 : tie.Need-same-length-3 Inv-loop μ-loop
-same-length-3 c = search needs
-
-same-length-4 : tie.Need-same-length-4 Inv-loop μ-loop
-same-length-4 c = search needs
 
 returns-2 : tie.Need-returns-2 Inv-loop μ-loop
 returns-2 c = filled _ _ _ _ _ _ _ (c .before .loop .inv) (c .loop-test .left)
@@ -138,35 +87,7 @@ returns-2 c = filled _ _ _ _ _ _ _ (c .before .loop .inv) (c .loop-test .left)
 pub fill-bars-spec : {M : Type 1} → statement M
 fill-bars-spec =
     tie.close
-    (tie.spec
-    Inv-loop
-    μ-loop
-    loop-holds
-    sub-head-of
-    part-head-of-start
-    part-head-of-end
-    head-of-requires
-    enum-told
-    same-length
-    same-length-2
-    returns
-    enum-told-2
-    add-at
-    loop-less
-    loop-again
-    enum-told-3
-    add-at-2
-    loop-less-2
-    loop-again-2
-    enum-known-head
-    mul-highs
-    slice-write-highs
-    mul-lows
-    slice-write-lows
-    add-bars
-    add-at-3
-    loop-less-3
-    loop-again-3
-    same-length-3
-    same-length-4
+    (tie.spec Inv-loop μ-loop loop-holds (search needs) (search needs) (search needs) (search needs) enum-told (search needs) (search needs)
+    returns (search needs) (search needs) (search needs) loop-again (search needs) (search needs) (search needs) loop-again-2 (search needs)
+    mul-highs slice-write-highs mul-lows slice-write-lows add-bars (search needs) (search needs) loop-again-3 (search needs) (search needs)
     returns-2)

@@ -8,18 +8,6 @@ use Rattle.chart_read.proofs.head_of.Tie as tie
 returns : tie.Need-returns
 returns c = head-short _ _ (c .if1 .taken)
 
-shared-slice-read-mark-of : tie.Need-shared-slice-read-mark-of
-shared-slice-read-mark-of c = search needs
-
-shared-slice-read-mark-of-2 : tie.Need-shared-slice-read-mark-of-2
-shared-slice-read-mark-of-2 c = search needs
-
-mark-of-requires : tie.Need-mark-of-requires
-mark-of-requires c κs = search needs
-
-enum-known-m : tie.Need-enum-known-m
-enum-known-m c = search needs
-
 enum-told : tie.Need-enum-told
 enum-told c = search needs
 
@@ -28,15 +16,6 @@ returns-2 c =
     let called = c .before .before in
     let test = called .before .before .before in
     head-unknown _ _ (test .if1 .left) _ (called .mark-of .ensures) (c .enum-told .given .1)
-
-sub-cut : tie.Need-sub-cut
-sub-cut c = search needs
-
-width-of-requires : tie.Need-width-of-requires
-width-of-requires c κs = search needs
-
-is-full-requires : tie.Need-is-full-requires
-is-full-requires c κs = search needs
 
 returns-3 : tie.Need-returns-3
 returns-3 c =
@@ -55,15 +34,6 @@ returns-4 c =
     let test = called .before .before .before in
     head-full _ _ (test .if1 .left) _ (called .mark-of .ensures) _ (mark .m .given .1) _ (wide .width-of .ensures) (c .before .if2 .left)
     (sym (full .is-full .ensures) ∙ c .if3 .taken)
-
-sub-checked-record : tie.Need-sub-checked-record
-sub-checked-record c = search needs
-
-part-checked-record-start : tie.Need-part-checked-record-start
-part-checked-record-start c = search needs
-
-part-checked-record-end : tie.Need-part-checked-record-end
-part-checked-record-end c = search needs
 
 checked-record-requires : tie.Need-checked-record-requires
 checked-record-requires c κs =
@@ -87,21 +57,5 @@ returns-5 c =
 pub head-of-spec : {M : Type 1} → statement M
 head-of-spec =
     tie.close
-    (tie.spec
-    returns
-    shared-slice-read-mark-of
-    shared-slice-read-mark-of-2
-    mark-of-requires
-    enum-known-m
-    enum-told
-    returns-2
-    sub-cut
-    width-of-requires
-    is-full-requires
-    returns-3
-    returns-4
-    sub-checked-record
-    part-checked-record-start
-    part-checked-record-end
-    checked-record-requires
-    returns-5)
+    (tie.spec returns (search needs) (search needs) (search needs) (search needs) enum-told returns-2 (search needs) (search needs)
+    (search needs) returns-3 returns-4 (search needs) (search needs) (search needs) checked-record-requires returns-5)

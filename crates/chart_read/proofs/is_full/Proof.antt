@@ -7,15 +7,6 @@ use Rattle.chart_read.proofs.is_full.Tie as tie
 enum-told : tie.Need-enum-told
 enum-told c = search needs
 
-enum-known-m : tie.Need-enum-known-m
-enum-known-m c = search needs
-
-level-full-requires : tie.Need-level-full-requires
-level-full-requires c κs = search needs
-
-enum-told-2 : tie.Need-enum-told-2
-enum-told-2 c = search needs
-
 returns : tie.Need-returns
 unfolding fullBy
 returns c = rw (c .before .enum-told .given .1)
@@ -28,6 +19,4 @@ unfolding fullBy
 returns-3 c = rw (c .before .enum-told2 .given .1)
 
 pub is-full-spec : {M : Type 1} → statement M
-is-full-spec =
-    tie.close
-    (tie.spec enum-told enum-known-m level-full-requires enum-told-2 returns returns-2 returns-3)
+is-full-spec = tie.close (tie.spec enum-told (search needs) (search needs) (search needs) returns returns-2 returns-3)

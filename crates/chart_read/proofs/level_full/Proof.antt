@@ -7,12 +7,6 @@ use Rattle.chart_read.proofs.level_full.Tie as tie
 enum-told : tie.Need-enum-told
 enum-told c = search needs
 
-enum-told-2 : tie.Need-enum-told-2
-enum-told-2 c = search needs
-
-enum-told-3 : tie.Need-enum-told-3
-enum-told-3 c = search needs
-
 returns : tie.Need-returns
 unfolding fullBy
 returns c = rw (c .before .enum-told .given .1)
@@ -26,5 +20,4 @@ unfolding fullBy
 returns-3 c = rw (c .before .enum-told3 .given .1)
 
 pub level-full-spec : {M : Type 1} → statement M
-level-full-spec =
-    tie.close (tie.spec enum-told enum-told-2 enum-told-3 returns returns-2 returns-3)
+level-full-spec = tie.close (tie.spec enum-told (search needs) (search needs) returns returns-2 returns-3)

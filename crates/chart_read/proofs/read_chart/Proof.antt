@@ -11,16 +11,10 @@ start c = c .before .before .before .before .before
 abbrev lent : tie.Start → Quotes
 lent c = record { highs = c .args .highs .now; lows = c .args .lows .now }
 
-refusal-requires : tie.Need-refusal-requires
-refusal-requires c κs = search needs
-
 returns : tie.Need-returns
 returns c =
     let s = c .before .before .before .before .before in
     rw (c .refusal .ensures .0, c .refusal .ensures .1) (answer-unequal (lent s) (s .args .bytes .now) _ _ (c .before .if1 .taken))
-
-scan-requires : tie.Need-scan-requires
-scan-requires c κs = search needs
 
 returns-2 : tie.Need-returns-2
 returns-2 c =
@@ -35,12 +29,6 @@ fill-bars-requires c κs =
     let s = start called in
     (called .before .if1 .left, file-given (lent s) (s .args .bytes .now) _ _ _ _ (test .if2 .left) (called .scan .ensures))
 
-same-length : tie.Need-same-length
-same-length c = search needs
-
-same-length-2 : tie.Need-same-length-2
-same-length-2 c = search needs
-
 returns-3 : tie.Need-returns-3
 returns-3 c =
     let fill = c .before .before .before .before in
@@ -50,14 +38,4 @@ returns-3 c =
     answer-given (lent s) (s .args .bytes .now) _ _ _ _ _ (called .before .if1 .left) (test .if2 .left) (called .scan .ensures) (fill .fill-bars .ensures)
 
 pub read-chart-spec : {M : Type 1} → statement M
-read-chart-spec =
-    tie.close
-    (tie.spec
-    refusal-requires
-    returns
-    scan-requires
-    returns-2
-    fill-bars-requires
-    same-length
-    same-length-2
-    returns-3)
+read-chart-spec = tie.close (tie.spec (search needs) returns (search needs) returns-2 fill-bars-requires (search needs) (search needs) returns-3)

@@ -59,143 +59,47 @@ superior-read :
     (c : tie.After-enum-told3 Inv-loop μ-loop) → answerOf (arm (c .before .before) .head-of .result) ≡ given (superior (triple (c .before .before)))
 superior-read c = triple-is _ _ level.Superior _ (c .before .before .before .head3 .given .1) (c .enum-told3 .given .1)
 
-no-chart-requires : tie.Need-no-chart-requires Inv-loop μ-loop
-no-chart-requires c κs = search needs
-
 loop-holds : tie.Need-loop-holds Inv-loop μ-loop
 loop-holds c = let e = c .no-chart .ensures in begins _ _ _ (sized c) (e .0) (e .1) (e .2) (e .3)
-
-sub-head-of : tie.Need-sub-head-of Inv-loop μ-loop
-sub-head-of c = search needs
-
-part-head-of-start : tie.Need-part-head-of-start Inv-loop μ-loop
-part-head-of-start c = search needs
-
-part-head-of-end : tie.Need-part-head-of-end Inv-loop μ-loop
-part-head-of-end c = search needs
-
-head-of-requires : tie.Need-head-of-requires Inv-loop μ-loop
-head-of-requires c κs = search needs
-
-enum-known-head : tie.Need-enum-known-head Inv-loop μ-loop
-enum-known-head c = search needs
-
-refusal-requires : tie.Need-refusal-requires Inv-loop μ-loop
-refusal-requires c κs = search needs
 
 returns : tie.Need-returns Inv-loop μ-loop
 returns c =
     let read = c .before .before .before .before in
     rw (c .refusal .ensures .0, c .refusal .ensures .1) (stops (turn read) _ (ap answerOf (c .before .before .head .given .1)) _ _)
 
-enum-known-head-2 : tie.Need-enum-known-head-2 Inv-loop μ-loop
-enum-known-head-2 c = search needs
-
-cast-k : tie.Need-cast-k Inv-loop μ-loop
-cast-k c = search needs
-
-mul-s : tie.Need-mul-s Inv-loop μ-loop
-mul-s c = search needs
-
 element-set-from-s : tie.Need-element-set-from-s Inv-loop μ-loop
 element-set-from-s c = omega (arith, has-place (turn (c .before .before .before)) _ (stroke-read c))
-
-add-chart : tie.Need-add-chart Inv-loop μ-loop
-add-chart c = search needs
-
-add-at : tie.Need-add-at Inv-loop μ-loop
-add-at c = search needs
-
-loop-less : tie.Need-loop-less Inv-loop μ-loop
-loop-less c = search needs
 
 loop-again : tie.Need-loop-again Inv-loop μ-loop
 unfolding width kind
 loop-again c = goes-on (turn (c .before .before .before)) _ (stroke-read c) _ refl
 
-enum-known-head-3 : tie.Need-enum-known-head-3 Inv-loop μ-loop
-enum-known-head-3 c = search needs
-
-add-at-2 : tie.Need-add-at-2 Inv-loop μ-loop
-add-at-2 c = search needs
-
 enum-told : tie.Need-enum-told Inv-loop μ-loop
 enum-told c = search needs
 
-cast-k-2 : tie.Need-cast-k-2 Inv-loop μ-loop
-cast-k-2 c = search needs
-
-mul-t : tie.Need-mul-t Inv-loop μ-loop
-mul-t c = search needs
-
 element-set-from-t : tie.Need-element-set-from-t Inv-loop μ-loop
 element-set-from-t c = omega (arith, has-place (turn (arm (c .before .before))) _ (segment-read c))
-
-add-chart-2 : tie.Need-add-chart-2 Inv-loop μ-loop
-add-chart-2 c = search needs
-
-loop-less-2 : tie.Need-loop-less-2 Inv-loop μ-loop
-loop-less-2 c = search needs
 
 loop-again-2 : tie.Need-loop-again-2 Inv-loop μ-loop
 unfolding width kind
 loop-again-2 c = goes-on (turn (arm (c .before .before))) _ (segment-read c) _ refl
 
-enum-told-2 : tie.Need-enum-told-2 Inv-loop μ-loop
-enum-told-2 c = search needs
-
-cast-k-3 : tie.Need-cast-k-3 Inv-loop μ-loop
-cast-k-3 c = search needs
-
-mul-t-2 : tie.Need-mul-t-2 Inv-loop μ-loop
-mul-t-2 c = search needs
-
 element-set-from-t-2 : tie.Need-element-set-from-t-2 Inv-loop μ-loop
 element-set-from-t-2 c = omega (arith, has-place (turn (arm (c .before .before))) _ (big-read c))
-
-add-chart-3 : tie.Need-add-chart-3 Inv-loop μ-loop
-add-chart-3 c = search needs
-
-loop-less-3 : tie.Need-loop-less-3 Inv-loop μ-loop
-loop-less-3 c = search needs
 
 loop-again-3 : tie.Need-loop-again-3 Inv-loop μ-loop
 unfolding width kind
 loop-again-3 c = goes-on (turn (arm (c .before .before))) _ (big-read c) _ refl
 
-enum-told-3 : tie.Need-enum-told-3 Inv-loop μ-loop
-enum-told-3 c = search needs
-
-cast-k-4 : tie.Need-cast-k-4 Inv-loop μ-loop
-cast-k-4 c = search needs
-
-mul-t-3 : tie.Need-mul-t-3 Inv-loop μ-loop
-mul-t-3 c = search needs
-
 element-set-from-t-3 : tie.Need-element-set-from-t-3 Inv-loop μ-loop
 element-set-from-t-3 c = omega (arith, has-place (turn (arm (c .before .before))) _ (superior-read c))
-
-add-chart-4 : tie.Need-add-chart-4 Inv-loop μ-loop
-add-chart-4 c = search needs
-
-loop-less-4 : tie.Need-loop-less-4 Inv-loop μ-loop
-loop-less-4 c = search needs
 
 loop-again-4 : tie.Need-loop-again-4 Inv-loop μ-loop
 unfolding width kind
 loop-again-4 c = goes-on (turn (arm (c .before .before))) _ (superior-read c) _ refl
 
-enum-told-4 : tie.Need-enum-told-4 Inv-loop μ-loop
-enum-told-4 c = search needs
-
 add-bars : tie.Need-add-bars Inv-loop μ-loop
 add-bars c = record { fits = omega (arith, has-place (turn (c .before .before)) _ (ap answerOf (c .enum-told4 .given .1))) }
-
-add-at-3 : tie.Need-add-at-3 Inv-loop μ-loop
-add-at-3 c = search needs
-
-loop-less-5 : tie.Need-loop-less-5 Inv-loop μ-loop
-loop-less-5 c = search needs
 
 loop-again-5 : tie.Need-loop-again-5 Inv-loop μ-loop
 unfolding width kind
@@ -207,52 +111,9 @@ returns-2 c = ends _ _ _ _ _ (c .before .loop .inv) (c .loop-test .left)
 pub scan-spec : {M : Type 1} → statement M
 scan-spec =
     tie.close
-    (tie.spec
-    Inv-loop
-    μ-loop
-    no-chart-requires
-    loop-holds
-    sub-head-of
-    part-head-of-start
-    part-head-of-end
-    head-of-requires
-    enum-known-head
-    refusal-requires
-    returns
-    enum-known-head-2
-    cast-k
-    mul-s
-    element-set-from-s
-    add-chart
-    add-at
-    loop-less
-    loop-again
-    enum-known-head-3
-    add-at-2
-    enum-told
-    cast-k-2
-    mul-t
-    element-set-from-t
-    add-chart-2
-    loop-less-2
-    loop-again-2
-    enum-told-2
-    cast-k-3
-    mul-t-2
-    element-set-from-t-2
-    add-chart-3
-    loop-less-3
-    loop-again-3
-    enum-told-3
-    cast-k-4
-    mul-t-3
-    element-set-from-t-3
-    add-chart-4
-    loop-less-4
-    loop-again-4
-    enum-told-4
-    add-bars
-    add-at-3
-    loop-less-5
-    loop-again-5
-    returns-2)
+    (tie.spec Inv-loop μ-loop (search needs) loop-holds (search needs) (search needs) (search needs) (search needs) (search needs)
+    (search needs) returns (search needs) (search needs) (search needs) element-set-from-s (search needs) (search needs) (search needs)
+    loop-again (search needs) (search needs) enum-told (search needs) (search needs) element-set-from-t (search needs) (search needs)
+    loop-again-2 (search needs) (search needs) (search needs) element-set-from-t-2 (search needs) (search needs) loop-again-3 (search needs)
+    (search needs) (search needs) element-set-from-t-3 (search needs) (search needs) loop-again-4 (search needs) add-bars (search needs)
+    (search needs) loop-again-5 returns-2)

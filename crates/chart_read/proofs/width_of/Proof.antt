@@ -8,12 +8,6 @@ use Rattle.chart_read.proofs.width_of.Tie as tie
 enum-told : tie.Need-enum-told
 enum-told c = search needs
 
-enum-told-2 : tie.Need-enum-told-2
-enum-told-2 c = search needs
-
-enum-told-3 : tie.Need-enum-told-3
-enum-told-3 c = search needs
-
 returns : tie.Need-returns
 unfolding width
 returns c = rw (c .enum-told .given .1)
@@ -26,4 +20,4 @@ unfolding width
 returns-3 c = rw (c .enum-told3 .given .1)
 
 pub width-of-spec : {M : Type 1} → statement M
-width-of-spec = tie.close (tie.spec enum-told enum-told-2 enum-told-3 returns returns-2 returns-3)
+width-of-spec = tie.close (tie.spec enum-told (search needs) (search needs) returns returns-2 returns-3)

@@ -27,12 +27,6 @@ narrow c =
     narrow-levels (c .args .chart) (strokes .0) (segments .0) (bigs .0) (superiors .0) (strokes .1 .1) (segments .1 .1) (bigs .1 .1)
     (superiors .1 .1)
 
-write-chart-requires : tie.Need-write-chart-requires
-write-chart-requires c κs = search needs
-
-same-length : tie.Need-same-length
-same-length c = search needs
-
 returns : tie.Need-returns
 returns c =
     let w = c .before .before .before .before .write-chart .ensures in
@@ -48,18 +42,6 @@ slice-aggregate-read-chart c =
     let w = wrote (c .before) .write-chart .ensures in
     sym (length-take-le _ _ (count-fits _ _ _ _ _ _ (w .0) (w .1 .0) (c .before .if1 .left) (search needs)))
 
-read-chart-requires : tie.Need-read-chart-requires
-read-chart-requires c κs = search needs
-
-same-length-2 : tie.Need-same-length-2
-same-length-2 c = search needs
-
-same-length-3 : tie.Need-same-length-3
-same-length-3 c = search needs
-
-same-length-4 : tie.Need-same-length-4
-same-length-4 c = search needs
-
 returns-2 : tie.Need-returns-2
 returns-2 c =
     let read = c .before .before .before .before in
@@ -70,14 +52,5 @@ returns-2 c =
 pub write-and-read-spec : {M : Type 1} → statement M
 write-and-read-spec =
     tie.close
-    (tie.spec
-    write-chart-requires
-    same-length
-    returns
-    slice-reshare-prefix-read-chart
-    slice-aggregate-read-chart
-    read-chart-requires
-    same-length-2
-    same-length-3
-    same-length-4
-    returns-2)
+    (tie.spec (search needs) (search needs) returns slice-reshare-prefix-read-chart slice-aggregate-read-chart (search needs) (search needs)
+    (search needs) (search needs) returns-2)

@@ -4,12 +4,6 @@ use borrow.Author.Needs.{needs}
 use Rattle.chart_write.proofs.bad_quotes.Statement.{statement}
 use Rattle.chart_write.proofs.bad_quotes.Tie as tie
 
-all-prices-requires : tie.Need-all-prices-requires
-all-prices-requires c κs = search needs
-
-all-prices-requires-2 : tie.Need-all-prices-requires-2
-all-prices-requires-2 c κs = search needs
-
 returns : tie.Need-returns
 unfolding badQuotes
 returns c = rw (← c .before .before .all-prices .ensures, c .before .if1 .taken, ← c .all-prices2 .ensures)
@@ -19,4 +13,4 @@ unfolding badQuotes
 returns-2 c = rw (← c .before .all-prices .ensures, c .if1 .left)
 
 pub bad-quotes-spec : {M : Type 1} → statement M
-bad-quotes-spec = tie.close (tie.spec all-prices-requires all-prices-requires-2 returns returns-2)
+bad-quotes-spec = tie.close (tie.spec (search needs) (search needs) returns returns-2)

@@ -23,27 +23,6 @@ abbrev μ-loop : tie.MeasureT-loop
 loop-holds : tie.Need-loop-holds Inv-loop μ-loop
 loop-holds c = (omega arith, begun _ _ _ (c .before .before .before .pre .1 .1))
 
-sub-put-bar : tie.Need-sub-put-bar Inv-loop μ-loop
-sub-put-bar c = search needs
-
-part-put-bar-start : tie.Need-part-put-bar-start Inv-loop μ-loop
-part-put-bar-start c = search needs
-
-part-put-bar-end : tie.Need-part-put-bar-end Inv-loop μ-loop
-part-put-bar-end c = search needs
-
-mul-put-bar : tie.Need-mul-put-bar Inv-loop μ-loop
-mul-put-bar c = search needs
-
-shared-slice-read-put-bar : tie.Need-shared-slice-read-put-bar Inv-loop μ-loop
-shared-slice-read-put-bar c = search needs
-
-mul-put-bar-2 : tie.Need-mul-put-bar-2 Inv-loop μ-loop
-mul-put-bar-2 c = search needs
-
-shared-slice-read-put-bar-2 : tie.Need-shared-slice-read-put-bar-2 Inv-loop μ-loop
-shared-slice-read-put-bar-2 c = search needs
-
 put-bar-requires : tie.Need-put-bar-requires Inv-loop μ-loop
 put-bar-requires c κs =
     let turn = c .before .before .before in
@@ -53,15 +32,6 @@ put-bar-requires c κs =
       room-next (head .loop .inv .1) (bar-next _ _ _ (start .pre .0) (turn .loop-test .taken)),
       (price-at _ _ (prices .0) (omega arith), price-at _ _ (prices .1) (omega arith)),
     )
-
-add-end : tie.Need-add-end Inv-loop μ-loop
-add-end c = search needs
-
-add-i : tie.Need-add-i Inv-loop μ-loop
-add-i c = search needs
-
-loop-less : tie.Need-loop-less Inv-loop μ-loop
-loop-less c = search needs
 
 loop-again : tie.Need-loop-again Inv-loop μ-loop
 loop-again c =
@@ -81,21 +51,5 @@ returns c =
 pub put-bars-spec : {M : Type 1} → statement M
 put-bars-spec =
     tie.close
-    (tie.spec
-    Inv-loop
-    μ-loop
-    loop-holds
-    sub-put-bar
-    part-put-bar-start
-    part-put-bar-end
-    mul-put-bar
-    shared-slice-read-put-bar
-    mul-put-bar-2
-    shared-slice-read-put-bar-2
-    put-bar-requires
-    add-end
-    add-i
-    loop-less
-    loop-again
-    same-length
-    returns)
+    (tie.spec Inv-loop μ-loop loop-holds (search needs) (search needs) (search needs) (search needs) (search needs) (search needs)
+    (search needs) put-bar-requires (search needs) (search needs) (search needs) loop-again same-length returns)

@@ -62,9 +62,6 @@ put-triples-requires-3 c κs =
     let start = entry-3 done in
     (counted _ (start .pre .0) .superiors, stage-room (bigs-put done) _ (room-4 _ _ _ (start .pre .1)))
 
-same-length : tie.Need-same-length
-same-length c = search needs
-
 returns : tie.Need-returns
 returns c =
     let last = c .before .before in
@@ -72,12 +69,4 @@ returns c =
     levels-put _ (stage-next (bigs-put done) _ (room-4 _ _ _ (entry-3 done .pre .1)) (last .put-triples3 .ensures))
 
 pub put-levels-spec : {M : Type 1} → statement M
-put-levels-spec =
-    tie.close
-    (tie.spec
-    put-strokes-requires
-    put-triples-requires
-    put-triples-requires-2
-    put-triples-requires-3
-    same-length
-    returns)
+put-levels-spec = tie.close (tie.spec put-strokes-requires put-triples-requires put-triples-requires-2 put-triples-requires-3 (search needs) returns)

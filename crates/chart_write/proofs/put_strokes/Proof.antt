@@ -26,24 +26,6 @@ long c = omega arith
 loop-holds : tie.Need-loop-holds Inv-loop μ-loop
 loop-holds c = (omega arith, begun _ _ _ (c .before .pre .1 .1))
 
-cast-s : tie.Need-cast-s Inv-loop μ-loop
-cast-s c = search needs
-
-mul-s : tie.Need-mul-s Inv-loop μ-loop
-mul-s c = search needs
-
-array-copy-out-s : tie.Need-array-copy-out-s Inv-loop μ-loop
-array-copy-out-s c = search needs
-
-sub-put-stroke : tie.Need-sub-put-stroke Inv-loop μ-loop
-sub-put-stroke c = search needs
-
-part-put-stroke-start : tie.Need-part-put-stroke-start Inv-loop μ-loop
-part-put-stroke-start c = search needs
-
-part-put-stroke-end : tie.Need-part-put-stroke-end Inv-loop μ-loop
-part-put-stroke-end c = search needs
-
 put-stroke-requires : tie.Need-put-stroke-requires Inv-loop μ-loop
 put-stroke-requires c κs =
     let turn = c .before .before in
@@ -51,15 +33,6 @@ put-stroke-requires c κs =
     let start = head .before .before in
     let more = turn .loop-test .taken in
     (room-next (head .loop .inv .1) (stroke-next _ _ _ (long start) more), stroke-prices _ _ _ (long start) more (start .pre .1 .0))
-
-add-end : tie.Need-add-end Inv-loop μ-loop
-add-end c = search needs
-
-add-i : tie.Need-add-i Inv-loop μ-loop
-add-i c = search needs
-
-loop-less : tie.Need-loop-less Inv-loop μ-loop
-loop-less c = search needs
 
 loop-again : tie.Need-loop-again Inv-loop μ-loop
 loop-again c =
@@ -79,20 +52,5 @@ returns c =
 pub put-strokes-spec : {M : Type 1} → statement M
 put-strokes-spec =
     tie.close
-    (tie.spec
-    Inv-loop
-    μ-loop
-    loop-holds
-    cast-s
-    mul-s
-    array-copy-out-s
-    sub-put-stroke
-    part-put-stroke-start
-    part-put-stroke-end
-    put-stroke-requires
-    add-end
-    add-i
-    loop-less
-    loop-again
-    same-length
-    returns)
+    (tie.spec Inv-loop μ-loop loop-holds (search needs) (search needs) (search needs) (search needs) (search needs) (search needs)
+    put-stroke-requires (search needs) (search needs) (search needs) loop-again same-length returns)

@@ -4,22 +4,8 @@ use borrow.Author.Needs.{needs}
 use Rattle.chart_write.proofs.put_triple.Statement.{statement}
 use Rattle.chart_write.proofs.put_triple.Tie as tie
 
-triple-bytes-requires : tie.Need-triple-bytes-requires
-triple-bytes-requires c κs = search needs
-
-slice-aggregate-copy : tie.Need-slice-aggregate-copy
-slice-aggregate-copy c = search needs
-
-copy-requires : tie.Need-copy-requires
-copy-requires c κs = search needs
-
-same-length : tie.Need-same-length
-same-length c = search needs
-
 returns : tie.Need-returns
 returns c = copied _ _ _ _ (c .before .before .before .before .before .triple-bytes .ensures) (c .before .before .copy .ensures .1)
 
 pub put-triple-spec : {M : Type 1} → statement M
-put-triple-spec =
-    tie.close
-    (tie.spec triple-bytes-requires slice-aggregate-copy copy-requires same-length returns)
+put-triple-spec = tie.close (tie.spec (search needs) (search needs) (search needs) (search needs) returns)

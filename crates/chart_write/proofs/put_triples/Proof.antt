@@ -24,38 +24,11 @@ long c = omega arith
 loop-holds : tie.Need-loop-holds Inv-loop μ-loop
 loop-holds c = (omega arith, begun _ _ _ (c .before .pre .1))
 
-cast-t : tie.Need-cast-t Inv-loop μ-loop
-cast-t c = search needs
-
-mul-t : tie.Need-mul-t Inv-loop μ-loop
-mul-t c = search needs
-
-array-copy-out-t : tie.Need-array-copy-out-t Inv-loop μ-loop
-array-copy-out-t c = search needs
-
-sub-put-triple : tie.Need-sub-put-triple Inv-loop μ-loop
-sub-put-triple c = search needs
-
-part-put-triple-start : tie.Need-part-put-triple-start Inv-loop μ-loop
-part-put-triple-start c = search needs
-
-part-put-triple-end : tie.Need-part-put-triple-end Inv-loop μ-loop
-part-put-triple-end c = search needs
-
 put-triple-requires : tie.Need-put-triple-requires Inv-loop μ-loop
 put-triple-requires c κs =
     let turn = c .before .before in
     let head = turn .before in
     room-next (head .loop .inv .1) (triple-next _ _ _ _ _ (long (head .before .before)) (turn .loop-test .taken))
-
-add-end : tie.Need-add-end Inv-loop μ-loop
-add-end c = search needs
-
-add-i : tie.Need-add-i Inv-loop μ-loop
-add-i c = search needs
-
-loop-less : tie.Need-loop-less Inv-loop μ-loop
-loop-less c = search needs
 
 loop-again : tie.Need-loop-again Inv-loop μ-loop
 loop-again c =
@@ -75,20 +48,5 @@ returns c =
 pub put-triples-spec : {M : Type 1} → statement M
 put-triples-spec =
     tie.close
-    (tie.spec
-    Inv-loop
-    μ-loop
-    loop-holds
-    cast-t
-    mul-t
-    array-copy-out-t
-    sub-put-triple
-    part-put-triple-start
-    part-put-triple-end
-    put-triple-requires
-    add-end
-    add-i
-    loop-less
-    loop-again
-    same-length
-    returns)
+    (tie.spec Inv-loop μ-loop loop-holds (search needs) (search needs) (search needs) (search needs) (search needs) (search needs)
+    put-triple-requires (search needs) (search needs) (search needs) loop-again same-length returns)

@@ -8,21 +8,6 @@ use Rattle.chart_write.proofs.refusal.Tie as tie
 sized : (c : tie.Start) → Sized (c .args .chart)
 sized c = search (needs, length-via, sized-via)
 
-levels-size-requires : tie.Need-levels-size-requires
-levels-size-requires c κs = search needs
-
-bad-chart-requires : tie.Need-bad-chart-requires
-bad-chart-requires c κs = search needs
-
-bad-quotes-requires : tie.Need-bad-quotes-requires
-bad-quotes-requires c κs = search needs
-
-too-short-requires : tie.Need-too-short-requires
-too-short-requires c κs = search needs
-
-first-of-requires : tie.Need-first-of-requires
-first-of-requires c κs = search needs
-
 returns : tie.Need-returns
 returns c =
     let short = c .before in
@@ -33,12 +18,4 @@ returns c =
     (wrong .bad-quotes .ensures) (size .levels-size .ensures) (short .too-short .ensures)
 
 pub refusal-spec : {M : Type 1} → statement M
-refusal-spec =
-    tie.close
-    (tie.spec
-    levels-size-requires
-    bad-chart-requires
-    bad-quotes-requires
-    too-short-requires
-    first-of-requires
-    returns)
+refusal-spec = tie.close (tie.spec (search needs) (search needs) (search needs) (search needs) (search needs) returns)

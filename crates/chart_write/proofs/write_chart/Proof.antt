@@ -27,12 +27,6 @@ bars-put :
     (c .put-bars .last .1 .1 .0)
 bars-put c = stage-first (bars-room _ _ (allowed (c .before .before))) (c .put-bars .ensures)
 
-refusal-requires : tie.Need-refusal-requires
-refusal-requires c κs = search needs
-
-same-length : tie.Need-same-length
-same-length c = search needs
-
 returns : tie.Need-returns
 returns c =
     let r = refused-call _ _ _ _ _ (c .if1 .taken) (c .before .refusal .ensures) in
@@ -49,9 +43,6 @@ put-levels-requires c κs =
     let a = allowed (done .before .before) in
     (a .good, stage-room (bars-put done) _ (a .room))
 
-same-length-2 : tie.Need-same-length-2
-same-length-2 c = search needs
-
 returns-2 : tie.Need-returns-2
 returns-2 c =
     let done = c .before .before .before .before .before .before in
@@ -62,13 +53,4 @@ returns-2 c =
     (r .0, (r .1, λ h. absurd (h refl)))
 
 pub write-chart-spec : {M : Type 1} → statement M
-write-chart-spec =
-    tie.close
-    (tie.spec
-    refusal-requires
-    same-length
-    returns
-    put-bars-requires
-    put-levels-requires
-    same-length-2
-    returns-2)
+write-chart-spec = tie.close (tie.spec (search needs) (search needs) returns put-bars-requires put-levels-requires (search needs) returns-2)

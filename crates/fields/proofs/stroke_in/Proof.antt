@@ -5,20 +5,10 @@ use Rattle.laws.proofs.FileCode.{stroke-read}
 use Rattle.fields.proofs.stroke_in.Statement.{statement}
 use Rattle.fields.proofs.stroke_in.Tie as tie
 
-triple-in-requires : tie.Need-triple-in-requires
-triple-in-requires c κs = search needs
-
-price-at-requires : tie.Need-price-at-requires
-price-at-requires c κs = search needs
-
-price-at-requires-2 : tie.Need-price-at-requires-2
-price-at-requires-2 c κs = search needs
-
 returns : tie.Need-returns
 returns c =
     let read = c .before .before in
     stroke-read _ _ (read .triple-in .ensures) _ _ (sym (c .before .price-at .ensures)) (sym (c .price-at2 .ensures))
 
 pub stroke-in-spec : {M : Type 1} → statement M
-stroke-in-spec =
-    tie.close (tie.spec triple-in-requires price-at-requires price-at-requires-2 returns)
+stroke-in-spec = tie.close (tie.spec (search needs) (search needs) (search needs) returns)

@@ -6,15 +6,6 @@ use Rattle.laws.proofs.FileCode.{one-at}
 use Rattle.fields.proofs.triple_in.Statement.{statement}
 use Rattle.fields.proofs.triple_in.Tie as tie
 
-shared-slice-read-t3 : tie.Need-shared-slice-read-t3
-shared-slice-read-t3 c = search needs
-
-two-at-requires : tie.Need-two-at-requires
-two-at-requires c κs = search needs
-
-two-at-requires-2 : tie.Need-two-at-requires-2
-two-at-requires-2 c κs = search needs
-
 returns : tie.Need-returns
 unfolding tripleIn
 returns c =
@@ -22,5 +13,4 @@ returns c =
     rw (one-at s 0 (omega arith), c .before .two-at .ensures, c .two-at2 .ensures)
 
 pub triple-in-spec : {M : Type 1} → statement M
-triple-in-spec =
-    tie.close (tie.spec shared-slice-read-t3 two-at-requires two-at-requires-2 returns)
+triple-in-spec = tie.close (tie.spec (search needs) (search needs) (search needs) returns)

@@ -14,8 +14,5 @@ returns c = sym (nan-bits (c .before .args .n) (omega arith))
 float-from-bits-result : tie.Need-float-from-bits-result
 float-from-bits-result c = bits-no-nan (c .before .args .n) (omega arith)
 
-returns-2 : tie.Need-returns-2
-returns-2 c = search needs
-
 pub value-of-spec : {M : Type 1} → statement M
-value-of-spec = tie.close (tie.spec returns float-from-bits-result returns-2)
+value-of-spec = tie.close (tie.spec returns float-from-bits-result (search needs))

@@ -21,9 +21,6 @@ given c = omega (arith, c .if2 .left)
 returns : tie.Need-returns
 returns c = live-count _ (omega (arith, c .if1 .taken))
 
-detect-bigseg-zhongshus-by-overlap-requires : tie.Need-detect-bigseg-zhongshus-by-overlap-requires
-detect-bigseg-zhongshus-by-overlap-requires c κs = search needs
-
 returns-2 : tie.Need-returns-2
 returns-2 c =
     let found = c .before .before in
@@ -51,12 +48,4 @@ returns-3 c =
     (asked .broken-levels .ensures) (c .same-zones .ensures)
 
 pub bad-live-spec : {M : Type 1} → statement M
-bad-live-spec =
-    tie.close
-    (tie.spec
-    returns
-    detect-bigseg-zhongshus-by-overlap-requires
-    returns-2
-    broken-levels-requires
-    same-zones-requires
-    returns-3)
+bad-live-spec = tie.close (tie.spec returns (search needs) returns-2 broken-levels-requires same-zones-requires returns-3)

@@ -7,14 +7,8 @@ use Rattle.kept.proofs.Same.{no-price}
 use Rattle.kept.proofs.same_price.Statement.{statement}
 use Rattle.kept.proofs.same_price.Tie as tie
 
-is-price-requires : tie.Need-is-price-requires
-is-price-requires c κs = search needs
-
 bits-of-price-requires : tie.Need-bits-of-price-requires
 bits-of-price-requires c κs = sym (c .before .is-price .ensures) ∙ c .if1 .taken
-
-bits-of-price-requires-2 : tie.Need-bits-of-price-requires-2
-bits-of-price-requires-2 c κs = search needs
 
 returns : tie.Need-returns
 unfolding samePrice
@@ -26,6 +20,4 @@ returns-2 c =
     no-price _ _ (passes _ (start .good .0 .1)) (start .pre) (sym (c .before .is-price .ensures) ∙ c .if1 .left)
 
 pub same-price-spec : {M : Type 1} → statement M
-same-price-spec =
-    tie.close
-    (tie.spec is-price-requires bits-of-price-requires bits-of-price-requires-2 returns returns-2)
+same-price-spec = tie.close (tie.spec (search needs) bits-of-price-requires (λ c κs. search needs) returns returns-2)

@@ -34,24 +34,6 @@ returns c = other-count _ _ _ _ (left-long (c .before)) (right-long (c .before))
 loop-holds : tie.Need-loop-holds Inv-loop μ-loop
 loop-holds c = (omega arith, refl)
 
-cast-x : tie.Need-cast-x Inv-loop μ-loop
-cast-x c = search needs
-
-mul-x : tie.Need-mul-x Inv-loop μ-loop
-mul-x c = search needs
-
-array-copy-out-x : tie.Need-array-copy-out-x Inv-loop μ-loop
-array-copy-out-x c = search needs
-
-cast-y : tie.Need-cast-y Inv-loop μ-loop
-cast-y c = search needs
-
-mul-y : tie.Need-mul-y Inv-loop μ-loop
-mul-y c = search needs
-
-array-copy-out-y : tie.Need-array-copy-out-y Inv-loop μ-loop
-array-copy-out-y c = search needs
-
 same-zone-requires : tie.Need-same-zone-requires Inv-loop μ-loop
 same-zone-requires c κs =
     let in-loop = c .before .before in
@@ -65,12 +47,6 @@ returns-2 c =
     let start = head .before .before in
     let other = sym (c .before .same-zone .ensures) ∙ not-true _ (c .if2 .taken) in
     sym (same-here _ _ _ _ (left-long start) (right-long start) (head .loop .i) _ (inside in-loop) (below in-loop) other) ∙ head .loop .inv .1
-
-add-i : tie.Need-add-i Inv-loop μ-loop
-add-i c = search needs
-
-loop-less : tie.Need-loop-less Inv-loop μ-loop
-loop-less c = search needs
 
 loop-again : tie.Need-loop-again Inv-loop μ-loop
 loop-again c =
@@ -92,20 +68,5 @@ returns-3 c =
 pub same-zones-spec : {M : Type 1} → statement M
 same-zones-spec =
     tie.close
-    (tie.spec
-    Inv-loop
-    μ-loop
-    returns
-    loop-holds
-    cast-x
-    mul-x
-    array-copy-out-x
-    cast-y
-    mul-y
-    array-copy-out-y
-    same-zone-requires
-    returns-2
-    add-i
-    loop-less
-    loop-again
-    returns-3)
+    (tie.spec Inv-loop μ-loop returns loop-holds (search needs) (search needs) (search needs) (search needs) (search needs) (search needs)
+    same-zone-requires returns-2 (search needs) (search needs) loop-again returns-3)

@@ -18,34 +18,14 @@ abbrev μ-loop : tie.MeasureT-loop
 loop-holds : tie.Need-loop-holds Inv-loop μ-loop
 loop-holds c = (search needs, refl, refl)
 
-mul-class : tie.Need-mul-class Inv-loop μ-loop
-mul-class c = search needs
-
-array-copy-out-class : tie.Need-array-copy-out-class Inv-loop μ-loop
-array-copy-out-class c = search needs
-
-triple-of-requires : tie.Need-triple-of-requires Inv-loop μ-loop
-triple-of-requires c κs = search needs
-
-mul-triples : tie.Need-mul-triples Inv-loop μ-loop
-mul-triples c = search needs
-
-array-set-from-triples : tie.Need-array-set-from-triples Inv-loop μ-loop
-array-set-from-triples c = search needs
-
-add-i : tie.Need-add-i Inv-loop μ-loop
-add-i c = search needs
-
-loop-less : tie.Need-loop-less Inv-loop μ-loop
-loop-less c = search needs
-
 loop-again : tie.Need-loop-again Inv-loop μ-loop
 loop-again c =
     let at-loop = c .before .before .before in
     let start = at-loop .before in (
       search needs,
       search needs,
-      one-class-more (at-loop .loop .i) (at-loop .loop .triples) (start .args .t1) _ _ (search needs) (search needs) (c .triple-of .ensures) (at-loop .loop .inv .2),
+      one-class-more (at-loop .loop .i) (at-loop .loop .triples) (start .args .t1) _ _ (search needs) (search needs) (c .triple-of .ensures)
+          (at-loop .loop .inv .2),
     )
 
 returns : tie.Need-returns Inv-loop μ-loop
@@ -57,16 +37,5 @@ returns c =
 pub triples-of-spec : {M : Type 1} → statement M
 triples-of-spec =
     tie.close
-    (tie.spec
-    Inv-loop
-    μ-loop
-    loop-holds
-    mul-class
-    array-copy-out-class
-    triple-of-requires
-    mul-triples
-    array-set-from-triples
-    add-i
-    loop-less
-    loop-again
-    returns)
+    (tie.spec Inv-loop μ-loop loop-holds (search needs) (search needs) (search needs) (search needs) (search needs) (search needs)
+    (search needs) loop-again returns)

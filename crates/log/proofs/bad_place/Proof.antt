@@ -37,9 +37,6 @@ loop-holds : tie.Need-loop-holds Inv-loop μ-loop
 unfolding spelled
 loop-holds c = (omega arith, omega arith, refl)
 
-next-entry-requires : tie.Need-next-entry-requires Inv-loop μ-loop
-next-entry-requires c κs = search needs
-
 enum-told : tie.Need-enum-told Inv-loop μ-loop
 enum-told c = search needs
 
@@ -59,15 +56,4 @@ returns-2 : tie.Need-returns-2 Inv-loop μ-loop
 returns-2 c = bad-nowhere _ _ _ (c .loop-test .left) ∙ c .before .loop .inv .2
 
 pub bad-place-spec : {M : Type 1} → statement M
-bad-place-spec =
-    tie.close
-    (tie.spec
-    Inv-loop
-    μ-loop
-    loop-holds
-    next-entry-requires
-    enum-told
-    returns
-    loop-less
-    loop-again
-    returns-2)
+bad-place-spec = tie.close (tie.spec Inv-loop μ-loop loop-holds (search needs) enum-told returns loop-less loop-again returns-2)

@@ -9,9 +9,6 @@ use Rattle.log.proofs.counted.Tie as tie
 enum-told : tie.Need-enum-told
 enum-told c = search needs
 
-add-result : tie.Need-add-result
-add-result c = search needs
-
 returns : tie.Need-returns
 returns c = with-bar _ _ _ _ (c .enum-told .given .1)
 
@@ -20,4 +17,4 @@ returns-2 c =
     with-call _ (c .before .args .entry) (λ high low e. miss (0 ∷ 2 ∷ []) 1 tt (rw e at (c .match .keys2)))
 
 pub counted-spec : {M : Type 1} → statement M
-counted-spec = tie.close (tie.spec enum-told add-result returns returns-2)
+counted-spec = tie.close (tie.spec enum-told (search needs) returns returns-2)

@@ -37,9 +37,6 @@ number-is c = own-number _ _ _ (good (asked c)) (c .triple-refusal .ensures
 zero : (c : tie.Else2) → liveRefusal (dataOf (start c .args .self)) (addSegment (start c .args .t)) ≡ 0
 zero c = sym (number-is (c .before)) ∙ c .if2 .left
 
-bad-requires : tie.Need-bad-requires
-bad-requires c κs = search needs
-
 returns : tie.Need-returns
 returns c = did-21 _ _ (sym (c .before .bad .ensures) ∙ c .if1 .taken)
 
@@ -49,20 +46,11 @@ triple-refusal-requires c κs = counted _ (not-21-good _ (good (c .before .befor
 returns-2 : tie.Need-returns-2
 returns-2 c = did-not _ _ _ (number-is (c .before)) (c .if2 .taken)
 
-cast-n : tie.Need-cast-n
-cast-n c = search needs
-
-mul-t : tie.Need-mul-t
-mul-t c = search needs
-
 element-set-from-t : tie.Need-element-set-from-t
 element-set-from-t c = adding-room _ (sized (start c)) (above segment) _ (accepts _ _ (zero c))
 
 add-chart : tie.Need-add-chart
 add-chart c = omega (arith, adding-room _ (sized (start c)) (above segment) _ (accepts _ _ (zero c)))
-
-renewed-requires : tie.Need-renewed-requires
-renewed-requires c κs = search needs
 
 returns-3 : tie.Need-returns-3
 returns-3 c =
@@ -71,4 +59,6 @@ returns-3 c =
 
 pub add-segment-spec : {M : Type 1} → statement M
 add-segment-spec =
-    tie.close (tie.spec bad-requires returns triple-refusal-requires returns-2 cast-n mul-t element-set-from-t add-chart renewed-requires returns-3)
+    tie.close
+    (tie.spec (search needs) returns triple-refusal-requires returns-2 (search needs) (search needs) element-set-from-t add-chart (search needs)
+    returns-3)

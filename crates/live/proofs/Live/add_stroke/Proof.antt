@@ -39,9 +39,6 @@ number-is c = own-number _ _ _ (good (asked c)) (c .stroke-refusal .ensures
 zero : (c : tie.Else2) → liveRefusal (dataOf (start c .args .self)) (addStroke (start c .args .s)) ≡ 0
 zero c = sym (number-is (c .before)) ∙ c .if2 .left
 
-bad-requires : tie.Need-bad-requires
-bad-requires c κs = search needs
-
 returns : tie.Need-returns
 returns c = did-21 _ _ (sym (c .before .bad .ensures) ∙ c .if1 .taken)
 
@@ -51,20 +48,11 @@ stroke-refusal-requires c κs = room _ (not-21-good _ (good (c .before)))
 returns-2 : tie.Need-returns-2
 returns-2 c = did-not _ _ _ (number-is (c .before)) (c .if2 .taken)
 
-cast-n : tie.Need-cast-n
-cast-n c = search needs
-
-mul-s : tie.Need-mul-s
-mul-s c = search needs
-
 element-set-from-s : tie.Need-element-set-from-s
 element-set-from-s c = adding-room _ (sized (start c)) stroke _ (accepts _ _ (zero c))
 
 add-chart : tie.Need-add-chart
 add-chart c = omega (arith, adding-room _ (sized (start c)) stroke _ (accepts _ _ (zero c)))
-
-renewed-requires : tie.Need-renewed-requires
-renewed-requires c κs = search needs
 
 returns-3 : tie.Need-returns-3
 returns-3 c =
@@ -73,4 +61,6 @@ returns-3 c =
 
 pub add-stroke-spec : {M : Type 1} → statement M
 add-stroke-spec =
-    tie.close (tie.spec bad-requires returns stroke-refusal-requires returns-2 cast-n mul-s element-set-from-s add-chart renewed-requires returns-3)
+    tie.close
+    (tie.spec (search needs) returns stroke-refusal-requires returns-2 (search needs) (search needs) element-set-from-s add-chart (search needs)
+    returns-3)

@@ -37,7 +37,9 @@ number-is :
     (c : tie.After-derive-refusal)
     → c .derive-refusal .result ≡ liveRefusal (dataOf (asked c .before .before .args .self)) (deriveBigs (asked c .before .before .args .byte))
 unfolding refusal levelsOf
-number-is c = own-number _ _ _ (good (asked c)) (c .derive-refusal .ensures _ (as-long _ (sized (asked c .before .before)) (counted _ (not-21-good _ (good (asked c)))) (above big)))
+number-is c =
+    own-number _ _ _ (good (asked c))
+    (c .derive-refusal .ensures _ (as-long _ (sized (asked c .before .before)) (counted _ (not-21-good _ (good (asked c)))) (above big)))
 
 zero : (c : tie.Else2) → liveRefusal (dataOf (start c .args .self)) (deriveBigs (start c .args .byte)) ≡ 0
 zero c = sym (number-is (c .before)) ∙ c .if2 .left
@@ -51,26 +53,14 @@ found c = bigs-found _ _ _ _ _ (accepts _ _ (zero (c .before))) (c .classify-big
 few : (c : tie.After-classify-big-segments) → c .classify-big-segments .result .count ≤ 256
 few c = let long : length (c .classify-big-segments .result .rows) ≡ 256 = search (needs, length-via) in omega (arith, found c .few)
 
-bad-requires : tie.Need-bad-requires
-bad-requires c κs = search needs
-
 returns : tie.Need-returns
 returns c = did-21 _ _ (sym (c .before .bad .ensures) ∙ c .if1 .taken)
-
-derive-refusal-requires : tie.Need-derive-refusal-requires
-derive-refusal-requires c κs = search needs
 
 returns-2 : tie.Need-returns-2
 returns-2 c = did-not _ _ _ (number-is (c .before)) (c .if2 .taken)
 
-classify-big-segments-requires : tie.Need-classify-big-segments-requires
-classify-big-segments-requires c κs = search needs
-
 triples-of-requires : tie.Need-triples-of-requires
 triples-of-requires c κs = few (c .before)
-
-renewed-requires : tie.Need-renewed-requires
-renewed-requires c κs = search needs
 
 returns-3 : tie.Need-returns-3
 returns-3 c =
@@ -80,5 +70,4 @@ returns-3 c =
     (bigs-does _ _ (accepts _ _ (zero (o .before))) _ _ _ (few o) (found o .same) (made .triples-of .ensures))
 
 pub derive-bigs-spec : {M : Type 1} → statement M
-derive-bigs-spec =
-    tie.close (tie.spec bad-requires returns derive-refusal-requires returns-2 classify-big-segments-requires triples-of-requires renewed-requires returns-3)
+derive-bigs-spec = tie.close (tie.spec (search needs) returns (search needs) returns-2 (search needs) triples-of-requires (search needs) returns-3)

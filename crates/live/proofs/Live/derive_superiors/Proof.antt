@@ -37,7 +37,9 @@ number-is :
     (c : tie.After-derive-refusal)
     → c .derive-refusal .result ≡ liveRefusal (dataOf (asked c .before .before .args .self)) (deriveSuperiors (asked c .before .before .args .byte))
 unfolding refusal levelsOf
-number-is c = own-number _ _ _ (good (asked c)) (c .derive-refusal .ensures _ (as-long _ (sized (asked c .before .before)) (counted _ (not-21-good _ (good (asked c)))) (above superior)))
+number-is c =
+    own-number _ _ _ (good (asked c))
+    (c .derive-refusal .ensures _ (as-long _ (sized (asked c .before .before)) (counted _ (not-21-good _ (good (asked c)))) (above superior)))
 
 zero : (c : tie.Else2) → liveRefusal (dataOf (start c .args .self)) (deriveSuperiors (start c .args .byte)) ≡ 0
 zero c = sym (number-is (c .before)) ∙ c .if2 .left
@@ -51,26 +53,14 @@ found c = superiors-found _ _ _ _ _ (accepts _ _ (zero (c .before))) (c .classif
 few : (c : tie.After-classify-sup-segments) → c .classify-sup-segments .result .count ≤ 256
 few c = let long : length (c .classify-sup-segments .result .rows) ≡ 256 = search (needs, length-via) in omega (arith, found c .few)
 
-bad-requires : tie.Need-bad-requires
-bad-requires c κs = search needs
-
 returns : tie.Need-returns
 returns c = did-21 _ _ (sym (c .before .bad .ensures) ∙ c .if1 .taken)
-
-derive-refusal-requires : tie.Need-derive-refusal-requires
-derive-refusal-requires c κs = search needs
 
 returns-2 : tie.Need-returns-2
 returns-2 c = did-not _ _ _ (number-is (c .before)) (c .if2 .taken)
 
-classify-sup-segments-requires : tie.Need-classify-sup-segments-requires
-classify-sup-segments-requires c κs = search needs
-
 triples-of-requires : tie.Need-triples-of-requires
 triples-of-requires c κs = few (c .before)
-
-renewed-requires : tie.Need-renewed-requires
-renewed-requires c κs = search needs
 
 returns-3 : tie.Need-returns-3
 returns-3 c =
@@ -81,4 +71,5 @@ returns-3 c =
 
 pub derive-superiors-spec : {M : Type 1} → statement M
 derive-superiors-spec =
-    tie.close (tie.spec bad-requires returns derive-refusal-requires returns-2 classify-sup-segments-requires triples-of-requires renewed-requires returns-3)
+    tie.close
+    (tie.spec (search needs) returns (search needs) returns-2 (search needs) triples-of-requires (search needs) returns-3)

@@ -41,9 +41,6 @@ zero c = sym (number-is (c .before)) ∙ c .if2 .left
 there : (c : tie.Else2) → 1 ≤ start c .args .self .chart .«superior_count»
 there c = some-superior _ (sized (start c)) _ (accepts _ _ (zero c))
 
-bad-requires : tie.Need-bad-requires
-bad-requires c κs = search needs
-
 returns : tie.Need-returns
 returns c = did-21 _ _ (sym (c .before .bad .ensures) ∙ c .if1 .taken)
 
@@ -56,17 +53,8 @@ returns-2 c = did-not _ _ _ (number-is (c .before)) (c .if2 .taken)
 sub-n : tie.Need-sub-n
 sub-n c = there c
 
-cast-n : tie.Need-cast-n
-cast-n c = search needs
-
-mul-chart : tie.Need-mul-chart
-mul-chart c = search needs
-
 way-write-given-chart : tie.Need-way-write-given-chart
 way-write-given-chart c = (omega (arith, there c, counted _ (accepts _ _ (zero c) .good) .superiors), tt)
-
-renewed-requires : tie.Need-renewed-requires
-renewed-requires c κs = search needs
 
 returns-3 : tie.Need-returns-3
 returns-3 c =
@@ -75,4 +63,6 @@ returns-3 c =
 
 pub lengthen-spec : {M : Type 1} → statement M
 lengthen-spec =
-    tie.close (tie.spec bad-requires returns lengthen-refusal-requires returns-2 sub-n cast-n mul-chart way-write-given-chart renewed-requires returns-3)
+    tie.close
+    (tie.spec (search needs) returns lengthen-refusal-requires returns-2 sub-n (search needs) (search needs) way-write-given-chart
+    (search needs) returns-3)

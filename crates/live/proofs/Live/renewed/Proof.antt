@@ -8,12 +8,6 @@ use Rattle.live.proofs.Live.renewed.Tie as tie
 sized : (c : tie.Start) → Sized (c .args .chart)
 sized c = search (needs, length-via, sized-via)
 
-detect-bigseg-zhongshus-by-overlap-requires : tie.Need-detect-bigseg-zhongshus-by-overlap-requires
-detect-bigseg-zhongshus-by-overlap-requires c κs = search needs
-
-count-up-requires : tie.Need-count-up-requires
-count-up-requires c κs = search needs
-
 returns : tie.Need-returns
 returns c =
     let found = c .before .before in
@@ -21,4 +15,4 @@ returns c =
     (renews (found .before .args .self) _ _ _ _ (sized (found .before)) (found .detect-bigseg-zhongshus-by-overlap .ensures))
 
 pub renewed-spec : {M : Type 1} → statement M
-renewed-spec = tie.close (tie.spec detect-bigseg-zhongshus-by-overlap-requires count-up-requires returns)
+renewed-spec = tie.close (tie.spec (search needs) (search needs) returns)

@@ -30,9 +30,6 @@ number-is c = own-number _ _ _ (good (asked c)) (c .withdraw-refusal .ensures)
 zero : (c : tie.Else2) → liveRefusal (dataOf (start c .args .self)) (withdraw (start c .args .level)) ≡ 0
 zero c = sym (number-is (c .before)) ∙ c .if2 .left
 
-bad-requires : tie.Need-bad-requires
-bad-requires c κs = search needs
-
 returns : tie.Need-returns
 returns c = did-21 _ _ (sym (c .before .bad .ensures) ∙ c .if1 .taken)
 
@@ -45,11 +42,8 @@ returns-2 c = did-not _ _ _ (number-is (c .before)) (c .if2 .taken)
 shortened-requires : tie.Need-shortened-requires
 shortened-requires c κs = accepts _ _ (zero c)
 
-renewed-requires : tie.Need-renewed-requires
-renewed-requires c κs = search needs
-
 returns-3 : tie.Need-returns-3
 returns-3 c = c .renewed .ensures _ (zero (c .before .before)) (c .before .shortened .ensures)
 
 pub withdraw-spec : {M : Type 1} → statement M
-withdraw-spec = tie.close (tie.spec bad-requires returns withdraw-refusal-requires returns-2 shortened-requires renewed-requires returns-3)
+withdraw-spec = tie.close (tie.spec (search needs) returns withdraw-refusal-requires returns-2 shortened-requires (search needs) returns-3)
