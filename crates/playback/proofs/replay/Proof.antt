@@ -6,15 +6,6 @@ use Rattle.playback.proofs.Turns.{stopped}
 use Rattle.playback.proofs.replay.Statement.{statement}
 use Rattle.playback.proofs.replay.Tie as tie
 
-bad-place-requires : tie.Need-bad-place-requires
-bad-place-requires c κs = search needs
-
-enum-known-place : tie.Need-enum-known-place
-enum-known-place c = search needs
-
-new-requires : tie.Need-new-requires
-new-requires c κs = search needs
-
 returns : tie.Need-returns
 returns c =
     let place = c .before .before in
@@ -26,17 +17,5 @@ enum-told c = search needs
 run-requires : tie.Need-run-requires
 run-requires c κs = sym (ap placeOf (c .enum-told .given .1)) ∙ c .before .before .bad-place .ensures
 
-returns-2 : tie.Need-returns-2
-returns-2 c = search needs
-
 pub replay-spec : {M : Type 1} → statement M
-replay-spec =
-    tie.close
-    (tie.spec
-    bad-place-requires
-    enum-known-place
-    new-requires
-    returns
-    enum-told
-    run-requires
-    returns-2)
+replay-spec = tie.close (tie.spec (search needs) (search needs) (search needs) returns enum-told run-requires (λ c. search needs))

@@ -53,20 +53,11 @@ bar-fits c = bar-room _ _ _ _ _ _ _ _ _ (c .before .before .before .before .loop
 never-bad : (c : tie.After-enum-told Inv-loop μ-loop) → ⊥
 never-bad c = none-some (sym (ap entryOf (c .enum-told .given .1)) ∙ entry-at (c .before .before) .is)
 
-new-requires : tie.Need-new-requires Inv-loop μ-loop
-new-requires c κs = search needs
-
 loop-holds : tie.Need-loop-holds Inv-loop μ-loop
 loop-holds c = begins _ _ _ _ _ (c .before .before .pre) (search needs) (search needs) (search needs)
 
 next-entry-requires : tie.Need-next-entry-requires Inv-loop μ-loop
 next-entry-requires c κs = (search needs, c .before .loop .inv .few)
-
-enum-known-entry : tie.Need-enum-known-entry Inv-loop μ-loop
-enum-known-entry c = search needs
-
-call-requires : tie.Need-call-requires Inv-loop μ-loop
-call-requires c κs = search needs
 
 array-write-answers : tie.Need-array-write-answers Inv-loop μ-loop
 array-write-answers c = fits (c .before .before)
@@ -82,9 +73,6 @@ loop-again c =
     let entry = c .before .before .before in
     let next = entry .before .before in
     further-call _ _ _ _ _ _ _ _ _ (next .before .before .loop .inv) _ _ _ (entry-at next) _ (call-at entry) _ _ (c .before .call .ensures)
-
-enum-known-entry-2 : tie.Need-enum-known-entry-2 Inv-loop μ-loop
-enum-known-entry-2 c = search needs
 
 mul-highs : tie.Need-mul-highs Inv-loop μ-loop
 mul-highs c = omega (arith, bar-fits (c .before))
@@ -124,27 +112,6 @@ returns c = finished _ _ _ _ _ _ _ _ _ (c .before .loop .inv) (c .loop-test .lef
 pub run-spec : {M : Type 1} → statement M
 run-spec =
     tie.close
-    (tie.spec
-    Inv-loop
-    μ-loop
-    new-requires
-    loop-holds
-    next-entry-requires
-    enum-known-entry
-    call-requires
-    array-write-answers
-    add-count
-    loop-less
-    loop-again
-    enum-known-entry-2
-    mul-highs
-    array-write-highs
-    mul-lows
-    array-write-lows
-    add-bars
-    loop-less-2
-    loop-again-2
-    enum-told
-    loop-less-3
-    loop-again-3
-    returns)
+    (tie.spec Inv-loop μ-loop (search needs) loop-holds next-entry-requires (search needs) (search needs) array-write-answers add-count
+    loop-less loop-again (search needs) mul-highs array-write-highs mul-lows array-write-lows add-bars loop-less-2 loop-again-2 enum-told
+    loop-less-3 loop-again-3 returns)

@@ -15,9 +15,6 @@ highs-fit c = room _ _ (c .replay .ensures) .0
 lows-fit : (c : tie.After-replay) → c .replay .result .bars ≤ length (c .replay .result .lows)
 lows-fit c = room _ _ (c .replay .ensures) .1
 
-replay-requires : tie.Need-replay-requires
-replay-requires c κs = search needs
-
 array-share-prefix-highs : tie.Need-array-share-prefix-highs
 array-share-prefix-highs c = highs-fit (c .before .before .before .before)
 
@@ -31,9 +28,6 @@ array-share-prefix-lows c = lows-fit (c .before .before .before .before .before)
 slice-aggregate-bigseg-third-marks-all-zhongshu-2 :
     tie.Need-slice-aggregate-bigseg-third-marks-all-zhongshu-2
 slice-aggregate-bigseg-third-marks-all-zhongshu-2 c = sym (length-take-le _ _ (lows-fit (c .before .before .before .before .before .before)))
-
-bigseg-third-marks-all-zhongshu-requires : tie.Need-bigseg-third-marks-all-zhongshu-requires
-bigseg-third-marks-all-zhongshu-requires c κs = search needs
 
 array-share-prefix-highs-2 : tie.Need-array-share-prefix-highs-2
 array-share-prefix-highs-2 c = highs-fit (c .before .before .before .before .before .before .before)
@@ -50,9 +44,6 @@ slice-aggregate-bigseg-3n-marks-all-zhongshu-2 :
 slice-aggregate-bigseg-3n-marks-all-zhongshu-2 c =
     sym (length-take-le _ _ (lows-fit (c .before .before .before .before .before .before .before .before .before)))
 
-bigseg-3n-marks-all-zhongshu-requires : tie.Need-bigseg-3n-marks-all-zhongshu-requires
-bigseg-3n-marks-all-zhongshu-requires c κs = search needs
-
 returns : tie.Need-returns
 returns c =
     after _ _ (c .before .before .before .before .before .before .before .before .before .before .replay .ensures)
@@ -62,16 +53,6 @@ returns c =
 pub replay-then-marks-spec : {M : Type 1} → statement M
 replay-then-marks-spec =
     tie.close
-    (tie.spec
-    replay-requires
-    array-share-prefix-highs
-    slice-aggregate-bigseg-third-marks-all-zhongshu
-    array-share-prefix-lows
-    slice-aggregate-bigseg-third-marks-all-zhongshu-2
-    bigseg-third-marks-all-zhongshu-requires
-    array-share-prefix-highs-2
-    slice-aggregate-bigseg-3n-marks-all-zhongshu
-    array-share-prefix-lows-2
-    slice-aggregate-bigseg-3n-marks-all-zhongshu-2
-    bigseg-3n-marks-all-zhongshu-requires
-    returns)
+    (tie.spec (search needs) array-share-prefix-highs slice-aggregate-bigseg-third-marks-all-zhongshu array-share-prefix-lows
+    slice-aggregate-bigseg-third-marks-all-zhongshu-2 (search needs) array-share-prefix-highs-2 slice-aggregate-bigseg-3n-marks-all-zhongshu
+    array-share-prefix-lows-2 slice-aggregate-bigseg-3n-marks-all-zhongshu-2 (search needs) returns)
