@@ -23,30 +23,6 @@ abbrev μ-loop : tie.MeasureT-loop
 loop-holds : tie.Need-loop-holds Inv-loop μ-loop
 loop-holds c = (search needs, refl, refl, λ l t. record { by-start = refl; by-end = refl })
 
-range-at-requires : tie.Need-range-at-requires Inv-loop μ-loop
-range-at-requires c κs = search needs
-
-bar-of-requires : tie.Need-bar-of-requires Inv-loop μ-loop
-bar-of-requires c κs = search needs
-
-mul-starts : tie.Need-mul-starts Inv-loop μ-loop
-mul-starts c = search needs
-
-array-write-starts : tie.Need-array-write-starts Inv-loop μ-loop
-array-write-starts c = search needs
-
-mul-ends : tie.Need-mul-ends Inv-loop μ-loop
-mul-ends c = search needs
-
-array-write-ends : tie.Need-array-write-ends Inv-loop μ-loop
-array-write-ends c = search needs
-
-add-k : tie.Need-add-k Inv-loop μ-loop
-add-k c = search needs
-
-loop-less : tie.Need-loop-less Inv-loop μ-loop
-loop-less c = search needs
-
 loop-again : tie.Need-loop-again Inv-loop μ-loop
 loop-again c =
     let read = c .before in
@@ -69,17 +45,5 @@ returns c =
 pub bars-of-spec : {M : Type 1} → statement M
 bars-of-spec =
     tie.close
-    (tie.spec
-    Inv-loop
-    μ-loop
-    loop-holds
-    range-at-requires
-    bar-of-requires
-    mul-starts
-    array-write-starts
-    mul-ends
-    array-write-ends
-    add-k
-    loop-less
-    loop-again
-    returns)
+    (tie.spec Inv-loop μ-loop loop-holds (search needs) (search needs) (search needs) (search needs) (search needs) (search needs)
+    (search needs) (search needs) loop-again returns)

@@ -15,9 +15,6 @@ begun c = c .before .before
 tables-of-requires : tie.Need-tables-of-requires
 tables-of-requires c κs = ((refl, refl), (refl, refl), refl)
 
-refusal-requires : tie.Need-refusal-requires
-refusal-requires c κs = search needs
-
 returns : tie.Need-returns
 returns c = c .refusal .ensures ∙ labels-by _ _ (c .before .before .before .tables-of .ensures .0) .0 (c .before .if1 .taken)
 
@@ -34,4 +31,4 @@ returns-2 c =
     c .labels-of .ensures _ _ (tables .bigs) (tables .zones) ∙ labels-by _ _ (made .0) .1 (known .if1 .left)
 
 pub detect-bigseg-trend-zhongshus-spec : {M : Type 1} → statement M
-detect-bigseg-trend-zhongshus-spec = tie.close (tie.spec tables-of-requires refusal-requires returns labels-of-requires returns-2)
+detect-bigseg-trend-zhongshus-spec = tie.close (tie.spec tables-of-requires (search needs) returns labels-of-requires returns-2)

@@ -6,31 +6,14 @@ use Rattle.labels.proofs.Steps.{name-most, label-named, label-extended}
 use Rattle.labels.proofs.label_of.Statement.{statement}
 use Rattle.labels.proofs.label_of.Tie as tie
 
-marked-requires : tie.Need-marked-requires
-marked-requires c κs = search needs
-
-name-of-requires : tie.Need-name-of-requires
-name-of-requires c κs = search needs
-
-enum-known-name : tie.Need-enum-known-name
-enum-known-name c = search needs
-
 enum-told : tie.Need-enum-told
 enum-told c = search needs
-
-with-extension-requires : tie.Need-with-extension-requires
-with-extension-requires c κs = search needs
 
 returns : tie.Need-returns
 returns c =
     let named = c .before .before .before in
-    label-extended _ _ _ _ (named .name-of .ensures) _ _ (named .before .marked .ensures .0) _ refl (c .before .enum-told .given .1) (c .with-extension .ensures)
-
-cast-with-name : tie.Need-cast-with-name
-cast-with-name c = search needs
-
-with-name-requires : tie.Need-with-name-requires
-with-name-requires c κs = search needs
+    label-extended _ _ _ _ (named .name-of .ensures) _ _ (named .before .marked .ensures .0) _ refl
+    (c .before .enum-told .given .1) (c .with-extension .ensures)
 
 add-t10 : tie.Need-add-t10
 add-t10 c =
@@ -45,14 +28,4 @@ returns-2 c =
 pub label-of-spec : {M : Type 1} → statement M
 label-of-spec =
     tie.close
-    (tie.spec
-    marked-requires
-    name-of-requires
-    enum-known-name
-    enum-told
-    with-extension-requires
-    returns
-    cast-with-name
-    with-name-requires
-    add-t10
-    returns-2)
+    (tie.spec (search needs) (search needs) (search needs) enum-told (search needs) returns (search needs) (search needs) add-t10 returns-2)

@@ -27,40 +27,13 @@ Inv-loop zb zp n bars prices m starts ends rows₀ last₀ k₀ rows last k =
 abbrev μ-loop : tie.MeasureT-loop
 μ-loop zb zp n bars prices m starts ends rows₀ last₀ k₀ rows last k = n - k
 
-bars-of-requires : tie.Need-bars-of-requires Inv-loop μ-loop
-bars-of-requires c κs = search needs
-
 loop-holds : tie.Need-loop-holds Inv-loop μ-loop
 loop-holds c = (search needs, refl, search needs, λ l zs t z. refl)
-
-zone-at-requires : tie.Need-zone-at-requires Inv-loop μ-loop
-zone-at-requires c κs = search needs
-
-slice-aggregate-lone : tie.Need-slice-aggregate-lone Inv-loop μ-loop
-slice-aggregate-lone c = search needs
-
-slice-aggregate-lone-2 : tie.Need-slice-aggregate-lone-2 Inv-loop μ-loop
-slice-aggregate-lone-2 c = search needs
 
 lone-requires : tie.Need-lone-requires Inv-loop μ-loop
 lone-requires c κs =
     let wide = c .before .before .before .before .before .before .before .bars-of .ensures .0 in
     (search needs, omega (arith, wide .0), omega (arith, wide .1))
-
-label-of-requires : tie.Need-label-of-requires Inv-loop μ-loop
-label-of-requires c κs = search needs
-
-mul-rows : tie.Need-mul-rows Inv-loop μ-loop
-mul-rows c = search needs
-
-array-set-from-rows : tie.Need-array-set-from-rows Inv-loop μ-loop
-array-set-from-rows c = search needs
-
-add-k : tie.Need-add-k Inv-loop μ-loop
-add-k c = search needs
-
-loop-less : tie.Need-loop-less Inv-loop μ-loop
-loop-less c = search needs
 
 loop-again : tie.Need-loop-again Inv-loop μ-loop
 loop-again c =
@@ -75,11 +48,9 @@ loop-again c =
       omega (arith, label-next _ _ _ _ (labelled .label-of .ensures)),
       λ l zs t z. labels-step l zs _ _ _ z (head .loop .k) (head .loop .last) (head .loop .rows) _ (inv .3 l zs t z) _ _ _
           (turn .loop-test .taken) (search needs) (read .zone-at .ensures)
-          (rw (count-touches l _ (l .bigs)) at (counted .lone .ensures _ (head .before .before .before .bars-of .ensures .1 l t))) (labelled .label-of .ensures),
+          (rw (count-touches l _ (l .bigs)) at (counted .lone .ensures _ (head .before .before .before .bars-of .ensures .1 l t)))
+          (labelled .label-of .ensures),
     )
-
-cast-t27 : tie.Need-cast-t27 Inv-loop μ-loop
-cast-t27 c = search needs
 
 returns : tie.Need-returns Inv-loop μ-loop
 returns c l zs t z =
@@ -90,20 +61,5 @@ returns c l zs t z =
 pub labels-of-spec : {M : Type 1} → statement M
 labels-of-spec =
     tie.close
-    (tie.spec
-    Inv-loop
-    μ-loop
-    bars-of-requires
-    loop-holds
-    zone-at-requires
-    slice-aggregate-lone
-    slice-aggregate-lone-2
-    lone-requires
-    label-of-requires
-    mul-rows
-    array-set-from-rows
-    add-k
-    loop-less
-    loop-again
-    cast-t27
-    returns)
+    (tie.spec Inv-loop μ-loop (search needs) loop-holds (search needs) (search needs) (search needs) lone-requires (search needs) (search needs)
+    (search needs) (search needs) (search needs) loop-again (search needs) returns)

@@ -5,9 +5,6 @@ use Rattle.labels.proofs.Steps.{name-first, name-other, name-above, nam
 use Rattle.labels.proofs.name_of.Statement.{statement}
 use Rattle.labels.proofs.name_of.Tie as tie
 
-enum-known-last : tie.Need-enum-known-last
-enum-known-last c = search needs
-
 enum-told : tie.Need-enum-told
 enum-told c = search needs
 
@@ -35,5 +32,4 @@ returns-5 c =
     name-none _ _ _ _ (same .before .before .before .before .last .given .1) (omega (arith, same .if1 .left)) (above .if2 .left) (c .if3 .left)
 
 pub name-of-spec : {M : Type 1} → statement M
-name-of-spec =
-    tie.close (tie.spec enum-known-last enum-told returns returns-2 returns-3 returns-4 returns-5)
+name-of-spec = tie.close (tie.spec (search needs) enum-told returns returns-2 returns-3 returns-4 returns-5)

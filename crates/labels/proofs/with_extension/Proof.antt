@@ -4,17 +4,8 @@ use Rattle.labels.proofs.Names.{extended}
 use Rattle.labels.proofs.with_extension.Statement.{statement}
 use Rattle.labels.proofs.with_extension.Tie as tie
 
-push-requires : tie.Need-push-requires
-push-requires c κs = search needs
-
-push-requires-2 : tie.Need-push-requires-2
-push-requires-2 c κs = search needs
-
-push-requires-3 : tie.Need-push-requires-3
-push-requires-3 c κs = search needs
-
 returns : tie.Need-returns
 returns c = extended _ _ _ _ (c .before .before .push .ensures) (c .before .push2 .ensures) (c .push3 .ensures)
 
 pub with-extension-spec : {M : Type 1} → statement M
-with-extension-spec = tie.close (tie.spec push-requires push-requires-2 push-requires-3 returns)
+with-extension-spec = tie.close (tie.spec (search needs) (search needs) (search needs) returns)

@@ -16,9 +16,6 @@ begun c = c .before .before
 tables-of-requires : tie.Need-tables-of-requires
 tables-of-requires c κs = ((refl, refl), (refl, refl), refl)
 
-refusal-requires : tie.Need-refusal-requires
-refusal-requires c κs = search needs
-
 returns : tie.Need-returns
 returns c = c .refusal .ensures ∙ zones-by _ _ (c .before .before .before .tables-of .ensures .0) .0 (c .before .if1 .taken)
 
@@ -34,11 +31,4 @@ returns-2 c =
     c .rows-of .ensures ∙ ap given (made .1 .0 (known .if1 .left) .zones .are) ∙ zones-by _ _ (made .0) .1 (known .if1 .left)
 
 pub detect-bigseg-zhongshus-by-overlap-spec : {M : Type 1} → statement M
-detect-bigseg-zhongshus-by-overlap-spec =
-    tie.close
-    (tie.spec
-    tables-of-requires
-    refusal-requires
-    returns
-    rows-of-requires
-    returns-2)
+detect-bigseg-zhongshus-by-overlap-spec = tie.close (tie.spec tables-of-requires (search needs) returns rows-of-requires returns-2)

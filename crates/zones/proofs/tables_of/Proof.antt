@@ -33,7 +33,9 @@ good : (c : tie.Else1) → badChart (start c .args .chart) ≡ false
 good c = sym (c .before .bigs-of .ensures .0) ∙ c .if1 .left
 
 -- the tables of its bigs, superiors and zones
-bigs : (c : tie.Else1) → Bigs (levelsOf (start c .args .chart)) (start c .args .chart .«big_count») (c .before .bigs-of .last .1 .0) (c .before .bigs-of .last .1 .1 .0)
+bigs :
+    (c : tie.Else1)
+    → Bigs (levelsOf (start c .args .chart)) (start c .args .chart .«big_count») (c .before .bigs-of .last .1 .0) (c .before .bigs-of .last .1 .1 .0)
 bigs c = c .before .bigs-of .ensures .1 (c .if1 .left)
 
 superiors :
@@ -50,30 +52,15 @@ unfolding overlapZones
 zones c =
     c .overlap .ensures .1 _ _ _ (bigs-members _ _ _ _ (bigs (else1 (else2 (listed c))))) (sups-owners _ _ _ (superiors (listed c)))
 
-bigs-of-requires : tie.Need-bigs-of-requires
-bigs-of-requires c κs = search needs
-
-no-tables-requires : tie.Need-no-tables-requires
-no-tables-requires c κs = search needs
-
 returns : tie.Need-returns
 returns c =
     let number = c .no-tables .ensures ∙ number-bad _ _ (sym (c .before .before .bigs-of .ensures .0) ∙ c .before .if1 .taken) in
     (number, (λ none. absurd (omega (arith, none, c .no-tables .ensures)), c .before .before .before .before .before .pre .1))
 
-no-tables-requires-2 : tie.Need-no-tables-requires-2
-no-tables-requires-2 c κs = search needs
-
 returns-2 : tie.Need-returns-2
 returns-2 c =
     let number = c .no-tables2 .ensures ∙ number-own _ _ (good (c .before .before)) (c .before .if2 .taken) in
     (number, (λ none. absurd (c .before .if2 .taken (sym (c .no-tables2 .ensures) ∙ none)), start (c .before .before) .pre .1))
-
-cast-n : tie.Need-cast-n
-cast-n c = search needs
-
-cast-m : tie.Need-cast-m
-cast-m c = search needs
 
 superiors-of-requires : tie.Need-superiors-of-requires
 superiors-of-requires c κs =
@@ -87,13 +74,11 @@ overlap-requires c κs =
     let fits = counted _ (good known) in
     (fits .superiors, fits .bigs, start known .pre .1)
 
-no-tables-requires-3 : tie.Need-no-tables-requires-3
-no-tables-requires-3 c κs = search needs
-
 returns-3 : tie.Need-returns-3
 returns-3 c =
     let put = c .before .before in
-    let number = c .no-tables3 .ensures ∙ number-many _ _ (good (else1 (else2 (listed put)))) (else2 (listed put) .if2 .left) _ _ _ (zones put) (c .before .if3 .taken) in
+    let known = else2 (listed put) in
+    let number = c .no-tables3 .ensures ∙ number-many _ _ (good (else1 known)) (known .if2 .left) _ _ _ (zones put) (c .before .if3 .taken) in
     (number, (λ none. absurd (omega (arith, none, c .no-tables3 .ensures)), put .overlap .ensures .0 .1))
 
 returns-4 : tie.Need-returns-4
@@ -117,16 +102,5 @@ returns-4 c =
 pub tables-of-spec : {M : Type 1} → statement M
 tables-of-spec =
     tie.close
-    (tie.spec
-    bigs-of-requires
-    no-tables-requires
-    returns
-    no-tables-requires-2
-    returns-2
-    cast-n
-    cast-m
-    superiors-of-requires
-    overlap-requires
-    no-tables-requires-3
-    returns-3
-    returns-4)
+    (tie.spec (search needs) (search needs) returns (search needs) returns-2 (search needs) (search needs) superiors-of-requires
+    overlap-requires (search needs) returns-3 returns-4)
