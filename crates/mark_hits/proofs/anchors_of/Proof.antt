@@ -26,20 +26,8 @@ read-of c = c .before .before .before .before .before
 loop-holds : tie.Need-loop-holds Inv-loop μ-loop
 loop-holds c = (omega arith, omega arith, c .pre .1, c .pre .0, omega arith, c .pre .2, found-none (c .args .side) _ _ _ _)
 
-add-i : tie.Need-add-i Inv-loop μ-loop
-add-i c = search needs
-
-point-at-requires : tie.Need-point-at-requires Inv-loop μ-loop
-point-at-requires c κs = search needs
-
-enum-known-bar : tie.Need-enum-known-bar Inv-loop μ-loop
-enum-known-bar c = search needs
-
 enum-told : tie.Need-enum-told Inv-loop μ-loop
 enum-told c = search needs
-
-loop-less : tie.Need-loop-less Inv-loop μ-loop
-loop-less c = search needs
 
 loop-again : tie.Need-loop-again Inv-loop μ-loop
 loop-again c =
@@ -56,21 +44,6 @@ loop-again c =
           (sym (read .point-at .ensures) ∙ c .enum-told .given .1),
     )
 
-first-behind-requires : tie.Need-first-behind-requires Inv-loop μ-loop
-first-behind-requires c κs = search needs
-
-next-end-requires : tie.Need-next-end-requires Inv-loop μ-loop
-next-end-requires c κs = search needs
-
-put-anchor-requires : tie.Need-put-anchor-requires Inv-loop μ-loop
-put-anchor-requires c κs = search needs
-
-add-n : tie.Need-add-n Inv-loop μ-loop
-add-n c = search needs
-
-loop-less-2 : tie.Need-loop-less-2 Inv-loop μ-loop
-loop-less-2 c = search needs
-
 loop-again-2 : tie.Need-loop-again-2 Inv-loop μ-loop
 loop-again-2 c =
     let next = c .before .before .before in
@@ -84,9 +57,9 @@ loop-again-2 c =
       inv .3,
       first .first-behind .ensures .0,
       c .put-anchor .ensures .0,
-      found-more (head-of read .before .args .side) _ _ _ _ _ (head-of read .loop .last) (head-of read .loop .from) _ (inv .6) (omega (arith, turn .if1 .taken, inv .2)) _ _
-          (sym (read .point-at .ensures) ∙ first .before .before .bar .given .1) _ (first .first-behind .ensures .1) (next .next-end .result)
-          (next .next-end .ensures .1) _ _ (c .put-anchor .ensures .1),
+      found-more (head-of read .before .args .side) _ _ _ _ _ (head-of read .loop .last) (head-of read .loop .from) _ (inv .6)
+          (omega (arith, turn .if1 .taken, inv .2)) _ _ (sym (read .point-at .ensures) ∙ first .before .before .bar .given .1) _
+          (first .first-behind .ensures .1) (next .next-end .result) (next .next-end .ensures .1) _ _ (c .put-anchor .ensures .1),
     )
 
 returns : tie.Need-returns Inv-loop μ-loop
@@ -98,20 +71,5 @@ returns c =
 pub anchors-of-spec : {M : Type 1} → statement M
 anchors-of-spec =
     tie.close
-    (tie.spec
-    Inv-loop
-    μ-loop
-    loop-holds
-    add-i
-    point-at-requires
-    enum-known-bar
-    enum-told
-    loop-less
-    loop-again
-    first-behind-requires
-    next-end-requires
-    put-anchor-requires
-    add-n
-    loop-less-2
-    loop-again-2
-    returns)
+    (tie.spec Inv-loop μ-loop loop-holds (search needs) (search needs) (search needs) enum-told (search needs) loop-again (search needs)
+    (search needs) (search needs) (search needs) (search needs) loop-again-2 returns)

@@ -21,20 +21,8 @@ returns c = (omega arith, λ l t h. none-first l _)
 loop-holds : tie.Need-loop-holds Inv-loop μ-loop
 loop-holds c = (c .before .pre .0, c .before .pre .1, λ l t h. none-later l (c .before .args .last) (c .before .args .place) _ (c .if1 .left) h)
 
-add-k : tie.Need-add-k Inv-loop μ-loop
-add-k c = search needs
-
-point-at-requires : tie.Need-point-at-requires Inv-loop μ-loop
-point-at-requires c κs = search needs
-
-enum-known-bar : tie.Need-enum-known-bar Inv-loop μ-loop
-enum-known-bar c = search needs
-
 enum-told : tie.Need-enum-told Inv-loop μ-loop
 enum-told c = search needs
-
-loop-less : tie.Need-loop-less Inv-loop μ-loop
-loop-less c = search needs
 
 loop-again : tie.Need-loop-again Inv-loop μ-loop
 loop-again c =
@@ -47,16 +35,10 @@ loop-again c =
       behind-nowhere _ _ _ (args .last) (args .place) _ _ (inv .2) (turn .loop-test .taken) (sym (read .point-at .ensures) ∙ c .enum-told .given .1),
     )
 
-is-behind-requires : tie.Need-is-behind-requires Inv-loop μ-loop
-is-behind-requires c κs = search needs
-
 returns-2 : tie.Need-returns-2 Inv-loop μ-loop
 returns-2 c =
     let inv = c .before .before .before .before .before .before .before .loop .inv in
     (inv .1, inv .2)
-
-loop-less-2 : tie.Need-loop-less-2 Inv-loop μ-loop
-loop-less-2 c = search needs
 
 loop-again-2 : tie.Need-loop-again-2 Inv-loop μ-loop
 loop-again-2 c =
@@ -67,8 +49,8 @@ loop-again-2 c =
     let inv = turn .before .loop .inv in (
       inv .0,
       omega (arith, turn .loop-test .taken),
-      behind-soon _ _ _ (args .last) (args .place) _ _ (inv .2) (turn .loop-test .taken) _ _ (sym (read .point-at .ensures) ∙ behind .before .before .bar .given .1)
-          (sym (behind .is-behind .ensures .0) ∙ c .if2 .left),
+      behind-soon _ _ _ (args .last) (args .place) _ _ (inv .2) (turn .loop-test .taken) _ _
+          (sym (read .point-at .ensures) ∙ behind .before .before .bar .given .1) (sym (behind .is-behind .ensures .0) ∙ c .if2 .left),
     )
 
 returns-3 : tie.Need-returns-3 Inv-loop μ-loop
@@ -77,19 +59,5 @@ returns-3 c = (c .before .loop .inv .1, c .before .loop .inv .2)
 pub first-behind-spec : {M : Type 1} → statement M
 first-behind-spec =
     tie.close
-    (tie.spec
-    Inv-loop
-    μ-loop
-    returns
-    loop-holds
-    add-k
-    point-at-requires
-    enum-known-bar
-    enum-told
-    loop-less
-    loop-again
-    is-behind-requires
-    returns-2
-    loop-less-2
-    loop-again-2
-    returns-3)
+    (tie.spec Inv-loop μ-loop returns loop-holds (search needs) (search needs) (search needs) enum-told (search needs) loop-again (search needs)
+    returns-2 (search needs) loop-again-2 returns-3)

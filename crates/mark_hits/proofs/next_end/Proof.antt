@@ -32,18 +32,6 @@ read-of c = c .before .before .before .before
 loop-holds : tie.Need-loop-holds Inv-loop μ-loop
 loop-holds c = (omega arith, c .pre, λ l t. refl)
 
-add-k : tie.Need-add-k Inv-loop μ-loop
-add-k c = search needs
-
-way-at-requires : tie.Need-way-at-requires Inv-loop μ-loop
-way-at-requires c κs = search needs
-
-is-way-requires : tie.Need-is-way-requires Inv-loop μ-loop
-is-way-requires c κs = search needs
-
-loop-less : tie.Need-loop-less Inv-loop μ-loop
-loop-less c = search needs
-
 loop-again : tie.Need-loop-again Inv-loop μ-loop
 loop-again c =
     let way = c .before in
@@ -56,17 +44,8 @@ loop-again c =
           (sym (way .is-way .ensures) ∙ not-true _ (c .if1 .taken)),
     )
 
-point-at-requires : tie.Need-point-at-requires Inv-loop μ-loop
-point-at-requires c κs = search needs
-
-enum-known-bar : tie.Need-enum-known-bar Inv-loop μ-loop
-enum-known-bar c = search needs
-
 enum-told : tie.Need-enum-told Inv-loop μ-loop
 enum-told c = search needs
-
-loop-less-2 : tie.Need-loop-less-2 Inv-loop μ-loop
-loop-less-2 c = search needs
 
 loop-again-2 : tie.Need-loop-again-2 Inv-loop μ-loop
 loop-again-2 c =
@@ -79,9 +58,6 @@ loop-again-2 c =
       λ l t. ends-nowhere _ _ _ _ _ (head .loop .k) l t _ (inv .2 l t) (turn .loop-test .taken) (sym (read .point-at .ensures) ∙ c .enum-told .given .1),
     )
 
-is-behind-requires : tie.Need-is-behind-requires Inv-loop μ-loop
-is-behind-requires c κs = search needs
-
 returns : tie.Need-returns Inv-loop μ-loop
 returns c =
     let behind = c .before in
@@ -91,13 +67,10 @@ returns c =
     let head = turn .before in
     let inv = head .loop .inv in (
       (omega (arith, inv .0), omega (arith, turn .loop-test .taken), behind .is-behind .ensures .1),
-      λ l t. ends-here _ _ _ _ _ (head .loop .k) l t _ (inv .2 l t) (turn .loop-test .taken) _ _ (sym (read .point-at .ensures) ∙ behind .before .before .bar .given .1)
-          _ (way .before .way-at .ensures) (sym (way .is-way .ensures) ∙ not-false _ (read .before .if1 .left))
-          (sym (behind .is-behind .ensures .0) ∙ c .if2 .taken),
+      λ l t. ends-here _ _ _ _ _ (head .loop .k) l t _ (inv .2 l t) (turn .loop-test .taken) _ _
+          (sym (read .point-at .ensures) ∙ behind .before .before .bar .given .1) _ (way .before .way-at .ensures)
+          (sym (way .is-way .ensures) ∙ not-false _ (read .before .if1 .left)) (sym (behind .is-behind .ensures .0) ∙ c .if2 .taken),
     )
-
-loop-less-3 : tie.Need-loop-less-3 Inv-loop μ-loop
-loop-less-3 c = search needs
 
 loop-again-3 : tie.Need-loop-again-3 Inv-loop μ-loop
 loop-again-3 c =
@@ -108,8 +81,8 @@ loop-again-3 c =
     let inv = head .loop .inv in (
       omega (arith, inv .0),
       inv .1,
-      λ l t. ends-soon _ _ _ _ _ (head .loop .k) l t _ (inv .2 l t) (turn .loop-test .taken) _ _ (sym (read .point-at .ensures) ∙ behind .before .before .bar .given .1)
-          (sym (behind .is-behind .ensures .0) ∙ c .if2 .left),
+      λ l t. ends-soon _ _ _ _ _ (head .loop .k) l t _ (inv .2 l t) (turn .loop-test .taken) _ _
+          (sym (read .point-at .ensures) ∙ behind .before .before .bar .given .1) (sym (behind .is-behind .ensures .0) ∙ c .if2 .left),
     )
 
 returns-2 : tie.Need-returns-2 Inv-loop μ-loop
@@ -120,22 +93,5 @@ returns-2 c =
 pub next-end-spec : {M : Type 1} → statement M
 next-end-spec =
     tie.close
-    (tie.spec
-    Inv-loop
-    μ-loop
-    loop-holds
-    add-k
-    way-at-requires
-    is-way-requires
-    loop-less
-    loop-again
-    point-at-requires
-    enum-known-bar
-    enum-told
-    loop-less-2
-    loop-again-2
-    is-behind-requires
-    returns
-    loop-less-3
-    loop-again-3
-    returns-2)
+    (tie.spec Inv-loop μ-loop loop-holds (search needs) (search needs) (search needs) (search needs) loop-again (search needs) (search needs)
+    enum-told (search needs) loop-again-2 (search needs) returns (search needs) loop-again-3 returns-2)

@@ -7,36 +7,14 @@ use Rattle.mark_hits.proofs.quote_at.Tie as tie
 returns : tie.Need-returns
 returns c = quote-outside _ _ _ _ (c .before .if1 .taken) (c .if2 .taken)
 
-mul-t6 : tie.Need-mul-t6
-mul-t6 c = search needs
-
-shared-slice-read-t9 : tie.Need-shared-slice-read-t9
-shared-slice-read-t9 c = search needs
-
 returns-2 : tie.Need-returns-2
 returns-2 c = quote-inside _ _ _ _ (c .before .before .if1 .taken) (c .before .if2 .left)
 
 returns-3 : tie.Need-returns-3
 returns-3 c = quote-outside _ _ _ _ (c .before .if1 .left) (c .if3 .taken)
 
-mul-t10 : tie.Need-mul-t10
-mul-t10 c = search needs
-
-shared-slice-read-t12 : tie.Need-shared-slice-read-t12
-shared-slice-read-t12 c = search needs
-
 returns-4 : tie.Need-returns-4
 returns-4 c = quote-inside _ _ _ _ (c .before .before .if1 .left) (c .before .if3 .left)
 
 pub quote-at-spec : {M : Type 1} → statement M
-quote-at-spec =
-    tie.close
-    (tie.spec
-    returns
-    mul-t6
-    shared-slice-read-t9
-    returns-2
-    returns-3
-    mul-t10
-    shared-slice-read-t12
-    returns-4)
+quote-at-spec = tie.close (tie.spec returns (search needs) (search needs) returns-2 returns-3 (search needs) (search needs) returns-4)

@@ -13,9 +13,6 @@ returns c = refuse-unequal _ _ 0 (c .if1 .taken)
 returns-2 : tie.Need-returns-2
 returns-2 c = refuse-long _ _ 0 (c .before .if1 .left) (omega (arith, c .if2 .taken))
 
-both-prices-requires : tie.Need-both-prices-requires
-both-prices-requires c κs = search needs
-
 returns-3 : tie.Need-returns-3
 returns-3 c =
     let at2 = c .before .before in
@@ -27,4 +24,4 @@ returns-4 c =
     refuse-none _ _ 0 (at2 .before .if1 .left) (omega (arith, at2 .if2 .left)) (sym (c .before .both-prices .ensures) ∙ not-false _ (c .if3 .left))
 
 pub quotes-refusal-spec : {M : Type 1} → statement M
-quotes-refusal-spec = tie.close (tie.spec returns returns-2 both-prices-requires returns-3 returns-4)
+quotes-refusal-spec = tie.close (tie.spec returns returns-2 (search needs) returns-3 returns-4)

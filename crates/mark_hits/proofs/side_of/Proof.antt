@@ -9,27 +9,6 @@ use Rattle.mark_hits.proofs.side_of.Tie as tie
 returns : tie.Need-returns
 returns c = ((refl, omega arith), λ l long t. side-none (c .before .before .args .counts) _ l long t (c .if1 .taken))
 
-index-1-wide : tie.Need-index-1-wide
-index-1-wide c = search needs
-
-index-2-wide : tie.Need-index-2-wide
-index-2-wide c = search needs
-
-wide-requires : tie.Need-wide-requires
-wide-requires c κs = search needs
-
-at-most-requires : tie.Need-at-most-requires
-at-most-requires c κs = search needs
-
-index-1-is-way : tie.Need-index-1-is-way
-index-1-is-way c = search needs
-
-index-2-is-way : tie.Need-index-2-is-way
-index-2-is-way c = search needs
-
-is-way-requires : tie.Need-is-way-requires
-is-way-requires c κs = search needs
-
 returns-2 : tie.Need-returns-2
 returns-2 c =
     let most = c .before .before in
@@ -42,13 +21,4 @@ returns-2 c =
 pub side-of-spec : {M : Type 1} → statement M
 side-of-spec =
     tie.close
-    (tie.spec
-    returns
-    index-1-wide
-    index-2-wide
-    wide-requires
-    at-most-requires
-    index-1-is-way
-    index-2-is-way
-    is-way-requires
-    returns-2)
+    (tie.spec returns (search needs) (search needs) (search needs) (search needs) (search needs) (search needs) (search needs) returns-2)

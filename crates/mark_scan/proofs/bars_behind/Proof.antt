@@ -8,17 +8,8 @@ use Rattle.mark_scan.proofs.bars_behind.Tie as tie
 returns : tie.Need-returns
 returns c = (rw (eq-eqb _ _ (c .if1 .taken)), (omega (arith, c .before .fits .e), omega (arith, c .before .fits .start)))
 
-sub-result : tie.Need-sub-result
-sub-result c = search needs
-
-add-result : tie.Need-add-result
-add-result c = search needs
-
-cast-result : tie.Need-cast-result
-cast-result c = search needs
-
 returns-2 : tie.Need-returns-2
 returns-2 c = (rw (ne-eqb _ _ (c .if1 .left)), (omega (arith, c .before .fits .e), omega (arith, c .before .fits .start)))
 
 pub bars-behind-spec : {M : Type 1} → statement M
-bars-behind-spec = tie.close (tie.spec returns sub-result add-result cast-result returns-2)
+bars-behind-spec = tie.close (tie.spec returns (search needs) (search needs) (search needs) returns-2)

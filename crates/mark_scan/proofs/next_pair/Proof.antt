@@ -16,25 +16,15 @@ use Rattle.mark_scan.proofs.next_pair.Tie as tie
 
 abbrev Inv-loop : tie.InvT-loop
 Inv-loop bars prices m d limit from k₀ k =
-    (from ≤ k) × (k < 65536) × ((c : Levels) (stop : ℕ → Bool) → Bigs c m bars prices → Limits limit stop → pairEnds c stop d (drop from (c .bigs)) ≡ pairEnds c stop d (drop k (c .bigs)))
+    (from ≤ k) × (k < 65536)
+    × ((c : Levels) (stop : ℕ → Bool) → Bigs c m bars prices → Limits limit stop
+    → pairEnds c stop d (drop from (c .bigs)) ≡ pairEnds c stop d (drop k (c .bigs)))
 
 abbrev μ-loop : tie.MeasureT-loop
 μ-loop bars prices m d limit from k₀ k = m - k
 
 loop-holds : tie.Need-loop-holds Inv-loop μ-loop
 loop-holds c = (omega arith, c .pre .1, λ l stop t lim. refl)
-
-add-loop : tie.Need-add-loop Inv-loop μ-loop
-add-loop c = search needs
-
-add-range-at : tie.Need-add-range-at Inv-loop μ-loop
-add-range-at c = search needs
-
-range-at-requires : tie.Need-range-at-requires Inv-loop μ-loop
-range-at-requires c κs = search needs
-
-enum-known-span : tie.Need-enum-known-span Inv-loop μ-loop
-enum-known-span c = search needs
 
 enum-told : tie.Need-enum-told Inv-loop μ-loop
 enum-told c = search needs
@@ -47,9 +37,6 @@ returns c =
     let inv = head .loop .inv in
     let missing = sym (read .range-at .ensures) ∙ c .enum-told .given .1 in
     (tt, λ l stop t lim. pairs-missing _ _ _ _ _ (head .loop .k) l stop t lim _ (inv .2 l stop t lim) (turn .loop-test .taken) missing)
-
-reached-requires : tie.Need-reached-requires Inv-loop μ-loop
-reached-requires c κs = search needs
 
 returns-2 : tie.Need-returns-2 Inv-loop μ-loop
 returns-2 c =
@@ -66,18 +53,6 @@ returns-2 c =
           (leb-true _ _ (sym (near .reached .ensures .0) ∙ tested .if1 .taken)),
     )
 
-way-at-requires : tie.Need-way-at-requires Inv-loop μ-loop
-way-at-requires c κs = search needs
-
-cast-if2 : tie.Need-cast-if2 Inv-loop μ-loop
-cast-if2 c = search needs
-
-add-t15 : tie.Need-add-t15 Inv-loop μ-loop
-add-t15 c = search needs
-
-cast-t16 : tie.Need-cast-t16 Inv-loop μ-loop
-cast-t16 c = search needs
-
 returns-3 : tie.Need-returns-3 Inv-loop μ-loop
 returns-3 c =
     let tested = c .before .before .before in
@@ -93,12 +68,6 @@ returns-3 c =
           (leb-false _ _ (sym (near .reached .ensures .0) ∙ tested .if1 .left))
           (sym (c .before .before .way-at .ensures) ∙ c .before .if2 .taken),
     )
-
-add-k : tie.Need-add-k Inv-loop μ-loop
-add-k c = search needs
-
-loop-less : tie.Need-loop-less Inv-loop μ-loop
-loop-less c = search needs
 
 loop-again : tie.Need-loop-again Inv-loop μ-loop
 loop-again c =
@@ -125,24 +94,5 @@ returns-4 c =
 pub next-pair-spec : {M : Type 1} → statement M
 next-pair-spec =
     tie.close
-    (tie.spec
-    Inv-loop
-    μ-loop
-    loop-holds
-    add-loop
-    add-range-at
-    range-at-requires
-    enum-known-span
-    enum-told
-    returns
-    reached-requires
-    returns-2
-    way-at-requires
-    cast-if2
-    add-t15
-    cast-t16
-    returns-3
-    add-k
-    loop-less
-    loop-again
-    returns-4)
+    (tie.spec Inv-loop μ-loop loop-holds (search needs) (search needs) (search needs) (search needs) enum-told returns (search needs) returns-2
+    (search needs) (search needs) (search needs) (search needs) returns-3 (search needs) (search needs) loop-again returns-4)

@@ -15,36 +15,6 @@ abbrev μ-loop : tie.MeasureT-loop
 loop-holds : tie.Need-loop-holds Inv-loop μ-loop
 loop-holds c = (omega arith, zones-first _ _ _ _)
 
-mul-bars-behind : tie.Need-mul-bars-behind Inv-loop μ-loop
-mul-bars-behind c = search needs
-
-index-1-bars-behind : tie.Need-index-1-bars-behind Inv-loop μ-loop
-index-1-bars-behind c = search needs
-
-index-2-bars-behind : tie.Need-index-2-bars-behind Inv-loop μ-loop
-index-2-bars-behind c = search needs
-
-mul-bars-behind-2 : tie.Need-mul-bars-behind-2 Inv-loop μ-loop
-mul-bars-behind-2 c = search needs
-
-index-1-bars-behind-2 : tie.Need-index-1-bars-behind-2 Inv-loop μ-loop
-index-1-bars-behind-2 c = search needs
-
-index-2-bars-behind-2 : tie.Need-index-2-bars-behind-2 Inv-loop μ-loop
-index-2-bars-behind-2 c = search needs
-
-bars-behind-requires : tie.Need-bars-behind-requires Inv-loop μ-loop
-bars-behind-requires c κs = search needs
-
-fewer-requires : tie.Need-fewer-requires Inv-loop μ-loop
-fewer-requires c κs = search needs
-
-add-i : tie.Need-add-i Inv-loop μ-loop
-add-i c = search needs
-
-loop-less : tie.Need-loop-less Inv-loop μ-loop
-loop-less c = search needs
-
 loop-again : tie.Need-loop-again Inv-loop μ-loop
 loop-again c =
     let at-call = c .before in
@@ -55,18 +25,6 @@ loop-again c =
       rw (c .fewer .ensures)
           (zones-next _ _ _ _ (head .loop .least) _ (head .loop .i) (in-loop .loop-test .taken) (got .1 .0) (got .1 .1) (got .0) (head .loop .inv .1)),
     )
-
-sub-if1 : tie.Need-sub-if1 Inv-loop μ-loop
-sub-if1 c = search needs
-
-cast-result : tie.Need-cast-result Inv-loop μ-loop
-cast-result c = search needs
-
-add-result : tie.Need-add-result Inv-loop μ-loop
-add-result c = search needs
-
-add-result-2 : tie.Need-add-result-2 Inv-loop μ-loop
-add-result-2 c = search needs
 
 returns : tie.Need-returns Inv-loop μ-loop
 returns c =
@@ -81,24 +39,6 @@ returns-2 c =
 pub next-zone-spec : {M : Type 1} → statement M
 next-zone-spec =
     tie.close
-    (tie.spec
-    Inv-loop
-    μ-loop
-    loop-holds
-    mul-bars-behind
-    index-1-bars-behind
-    index-2-bars-behind
-    mul-bars-behind-2
-    index-1-bars-behind-2
-    index-2-bars-behind-2
-    bars-behind-requires
-    fewer-requires
-    add-i
-    loop-less
-    loop-again
-    sub-if1
-    cast-result
-    add-result
-    add-result-2
-    returns
+    (tie.spec Inv-loop μ-loop loop-holds (search needs) (search needs) (search needs) (search needs) (search needs) (search needs)
+    (search needs) (search needs) (search needs) (search needs) loop-again (search needs) (search needs) (search needs) (search needs) returns
     returns-2)

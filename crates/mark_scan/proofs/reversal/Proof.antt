@@ -22,45 +22,6 @@ abbrev μ-loop : tie.MeasureT-loop
 loop-holds : tie.Need-loop-holds Inv-loop μ-loop
 loop-holds c = λ l t. refl
 
-mul-turns : tie.Need-mul-turns Inv-loop μ-loop
-mul-turns c = search needs
-
-index-1-turns : tie.Need-index-1-turns Inv-loop μ-loop
-index-1-turns c = search needs
-
-index-2-turns : tie.Need-index-2-turns Inv-loop μ-loop
-index-2-turns c = search needs
-
-mul-turns-2 : tie.Need-mul-turns-2 Inv-loop μ-loop
-mul-turns-2 c = search needs
-
-index-1-turns-2 : tie.Need-index-1-turns-2 Inv-loop μ-loop
-index-1-turns-2 c = search needs
-
-index-2-turns-2 : tie.Need-index-2-turns-2 Inv-loop μ-loop
-index-2-turns-2 c = search needs
-
-mul-turns-3 : tie.Need-mul-turns-3 Inv-loop μ-loop
-mul-turns-3 c = search needs
-
-index-1-turns-3 : tie.Need-index-1-turns-3 Inv-loop μ-loop
-index-1-turns-3 c = search needs
-
-index-2-turns-3 : tie.Need-index-2-turns-3 Inv-loop μ-loop
-index-2-turns-3 c = search needs
-
-turns-requires : tie.Need-turns-requires Inv-loop μ-loop
-turns-requires c κs = search needs
-
-mul-result : tie.Need-mul-result Inv-loop μ-loop
-mul-result c = search needs
-
-index-1-result : tie.Need-index-1-result Inv-loop μ-loop
-index-1-result c = search needs
-
-index-2-result : tie.Need-index-2-result Inv-loop μ-loop
-index-2-result c = search needs
-
 cast-result : tie.Need-cast-result Inv-loop μ-loop
 cast-result c = record { fits = omega (arith, c .before .before .turns .ensures .1) }
 
@@ -71,12 +32,6 @@ returns c =
     let in-loop = at-call .before .before .before .before in
     let head = in-loop .before in
     λ l t. reversal-here _ _ _ _ (head .loop .i) _ l t (head .loop .inv l t) (in-loop .loop-test .taken) _ (at-call .turns .ensures .0) (test .if1 .taken)
-
-add-i : tie.Need-add-i Inv-loop μ-loop
-add-i c = search needs
-
-loop-less : tie.Need-loop-less Inv-loop μ-loop
-loop-less c = search needs
 
 loop-again : tie.Need-loop-again Inv-loop μ-loop
 loop-again c =
@@ -91,26 +46,6 @@ returns-2 c = λ l t. reversal-none _ _ _ _ (c .before .loop .i) _ l t (c .befor
 pub reversal-spec : {M : Type 1} → statement M
 reversal-spec =
     tie.close
-    (tie.spec
-    Inv-loop
-    μ-loop
-    loop-holds
-    mul-turns
-    index-1-turns
-    index-2-turns
-    mul-turns-2
-    index-1-turns-2
-    index-2-turns-2
-    mul-turns-3
-    index-1-turns-3
-    index-2-turns-3
-    turns-requires
-    mul-result
-    index-1-result
-    index-2-result
-    cast-result
-    returns
-    add-i
-    loop-less
-    loop-again
-    returns-2)
+    (tie.spec Inv-loop μ-loop loop-holds (search needs) (search needs) (search needs) (search needs) (search needs) (search needs)
+    (search needs) (search needs) (search needs) (search needs) (search needs) (search needs) (search needs) cast-result returns (search needs)
+    (search needs) loop-again returns-2)

@@ -15,26 +15,8 @@ Inv-loop bars prices sups zb counts scans₀ rise i₀ scans i = (i ≤ counts .
 abbrev μ-loop : tie.MeasureT-loop
 μ-loop bars prices sups zb counts scans₀ rise i₀ scans i = counts .zones - i
 
-starts-rise-requires : tie.Need-starts-rise-requires Inv-loop μ-loop
-starts-rise-requires c κs = search needs
-
 loop-holds : tie.Need-loop-holds Inv-loop μ-loop
 loop-holds c = (omega arith, c .before .pre .2, λ j h. absurd (omega arith))
-
-scan-of-requires : tie.Need-scan-of-requires Inv-loop μ-loop
-scan-of-requires c κs = search needs
-
-mul-t12 : tie.Need-mul-t12 Inv-loop μ-loop
-mul-t12 c = search needs
-
-element-set-from-scans : tie.Need-element-set-from-scans Inv-loop μ-loop
-element-set-from-scans c = search needs
-
-add-i : tie.Need-add-i Inv-loop μ-loop
-add-i c = search needs
-
-loop-less : tie.Need-loop-less Inv-loop μ-loop
-loop-less c = search needs
 
 loop-again : tie.Need-loop-again Inv-loop μ-loop
 loop-again c =
@@ -56,15 +38,5 @@ returns c =
 pub scans-of-spec : {M : Type 1} → statement M
 scans-of-spec =
     tie.close
-    (tie.spec
-    Inv-loop
-    μ-loop
-    starts-rise-requires
-    loop-holds
-    scan-of-requires
-    mul-t12
-    element-set-from-scans
-    add-i
-    loop-less
-    loop-again
+    (tie.spec Inv-loop μ-loop (search needs) loop-holds (λ c κs. search needs) (search needs) (search needs) (search needs) (search needs) loop-again
     returns)

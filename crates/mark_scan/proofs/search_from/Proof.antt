@@ -10,56 +10,11 @@ use Rattle.mark_scan.proofs.search_from.Tie as tie
 returns : tie.Need-returns
 returns c = inl refl
 
-sub-i : tie.Need-sub-i
-sub-i c = search needs
-
-mul-if2 : tie.Need-mul-if2
-mul-if2 c = search needs
-
-index-1-if2 : tie.Need-index-1-if2
-index-1-if2 c = search needs
-
-index-2-if2 : tie.Need-index-2-if2
-index-2-if2 c = search needs
-
-mul-if2-2 : tie.Need-mul-if2-2
-mul-if2-2 c = search needs
-
-index-1-if2-2 : tie.Need-index-1-if2-2
-index-1-if2-2 c = search needs
-
-index-2-if2-2 : tie.Need-index-2-if2-2
-index-2-if2-2 c = search needs
-
 returns-2 : tie.Need-returns-2
 returns-2 c = inl refl
 
-mul-if3 : tie.Need-mul-if3
-mul-if3 c = search needs
-
-index-1-if3 : tie.Need-index-1-if3
-index-1-if3 c = search needs
-
-index-2-if3 : tie.Need-index-2-if3
-index-2-if3 c = search needs
-
-mul-if3-2 : tie.Need-mul-if3-2
-mul-if3-2 c = search needs
-
-index-1-if3-2 : tie.Need-index-1-if3-2
-index-1-if3-2 c = search needs
-
-index-2-if3-2 : tie.Need-index-2-if3-2
-index-2-if3-2 c = search needs
-
 returns-3 : tie.Need-returns-3
 returns-3 c = inl refl
-
-scan-at-requires : tie.Need-scan-at-requires
-scan-at-requires c κs = search needs
-
-cast-from : tie.Need-cast-from
-cast-from c = search needs
 
 returns-4 : tie.Need-returns-4
 returns-4 c = inl refl
@@ -80,24 +35,6 @@ returns-5 c =
 pub search-from-spec : {M : Type 1} → statement M
 search-from-spec =
     tie.close
-    (tie.spec
-    returns
-    sub-i
-    mul-if2
-    index-1-if2
-    index-2-if2
-    mul-if2-2
-    index-1-if2-2
-    index-2-if2-2
-    returns-2
-    mul-if3
-    index-1-if3
-    index-2-if3
-    mul-if3-2
-    index-1-if3-2
-    index-2-if3-2
-    returns-3
-    scan-at-requires
-    cast-from
-    returns-4
+    (tie.spec returns (search needs) (search needs) (search needs) (search needs) (search needs) (search needs) (search needs) returns-2
+    (search needs) (search needs) (search needs) (search needs) (search needs) (search needs) returns-3 (search needs) (search needs) returns-4
     returns-5)

@@ -21,32 +21,16 @@ abbrev μ-loop : tie.MeasureT-loop
 μ-loop bars prices m first last e end k₀ k = end - k
 
 -- the place of this turn is below both `last + 1` and m
-within : (c : tie.In-loop Inv-loop μ-loop) → (c .before .loop .k < suc (c .before .before .before .args .last)) × (c .before .loop .k < c .before .before .before .args .m)
+within :
+    (c : tie.In-loop Inv-loop μ-loop)
+    → (c .before .loop .k < suc (c .before .before .before .args .last)) × (c .before .loop .k < c .before .before .before .args .m)
 within c = (omega (arith, c .before .loop .inv .2, c .loop-test .taken), omega (arith, c .before .loop .inv .0, c .loop-test .taken))
-
-add-at-most : tie.Need-add-at-most Inv-loop μ-loop
-add-at-most c = search needs
-
-at-most-requires : tie.Need-at-most-requires Inv-loop μ-loop
-at-most-requires c κs = search needs
 
 loop-holds : tie.Need-loop-holds Inv-loop μ-loop
 loop-holds c = (omega (arith, c .at-most .ensures), c .before .pre .0, omega (arith, c .at-most .ensures), λ l t. refl)
 
-add-k : tie.Need-add-k Inv-loop μ-loop
-add-k c = search needs
-
-range-at-requires : tie.Need-range-at-requires Inv-loop μ-loop
-range-at-requires c κs = search needs
-
-enum-known-span : tie.Need-enum-known-span Inv-loop μ-loop
-enum-known-span c = search needs
-
 enum-told : tie.Need-enum-told Inv-loop μ-loop
 enum-told c = search needs
-
-loop-less : tie.Need-loop-less Inv-loop μ-loop
-loop-less c = search needs
 
 loop-again : tie.Need-loop-again Inv-loop μ-loop
 loop-again c =
@@ -69,9 +53,6 @@ returns c =
       λ l t. start-here _ _ _ _ _ (head .loop .k) l t _ (inv .3 l t) (within turn .0) (within turn .1) _ found (c .if1 .taken),
     )
 
-loop-less-2 : tie.Need-loop-less-2 Inv-loop μ-loop
-loop-less-2 c = search needs
-
 loop-again-2 : tie.Need-loop-again-2 Inv-loop μ-loop
 loop-again-2 c =
     let span = c .before .before .before in
@@ -81,9 +62,6 @@ loop-again-2 c =
     let inv = head .loop .inv in
     let found = sym (read .range-at .ensures) ∙ span .span .given .1 in
     (inv .0, inv .1, inv .2, λ l t. start-pass _ _ _ _ _ (head .loop .k) l t _ (inv .3 l t) (within turn .0) (within turn .1) _ found (c .if1 .left))
-
-at-most-requires-2 : tie.Need-at-most-requires-2 Inv-loop μ-loop
-at-most-requires-2 c κs = search needs
 
 returns-2 : tie.Need-returns-2 Inv-loop μ-loop
 returns-2 c =
@@ -97,20 +75,5 @@ returns-2 c =
 pub start-of-spec : {M : Type 1} → statement M
 start-of-spec =
     tie.close
-    (tie.spec
-    Inv-loop
-    μ-loop
-    add-at-most
-    at-most-requires
-    loop-holds
-    add-k
-    range-at-requires
-    enum-known-span
-    enum-told
-    loop-less
-    loop-again
-    returns
-    loop-less-2
-    loop-again-2
-    at-most-requires-2
-    returns-2)
+    (tie.spec Inv-loop μ-loop (search needs) (search needs) loop-holds (search needs) (search needs) (search needs) enum-told (search needs)
+    loop-again returns (search needs) loop-again-2 (search needs) returns-2)

@@ -22,21 +22,6 @@ abbrev μ-loop : tie.MeasureT-loop
 loop-holds : tie.Need-loop-holds Inv-loop μ-loop
 loop-holds c = (omega arith, λ good j k h w. absurd (omega arith))
 
-mul-start : tie.Need-mul-start Inv-loop μ-loop
-mul-start c = search needs
-
-index-1-start : tie.Need-index-1-start Inv-loop μ-loop
-index-1-start c = search needs
-
-index-2-start : tie.Need-index-2-start Inv-loop μ-loop
-index-2-start c = search needs
-
-add-i : tie.Need-add-i Inv-loop μ-loop
-add-i c = search needs
-
-loop-less : tie.Need-loop-less Inv-loop μ-loop
-loop-less c = search needs
-
 loop-again : tie.Need-loop-again Inv-loop μ-loop
 loop-again c =
     let head = c .before .before in
@@ -56,14 +41,4 @@ returns c good i j h w = c .before .loop .inv .1 good i j h (omega arith) .0
 pub starts-rise-spec : {M : Type 1} → statement M
 starts-rise-spec =
     tie.close
-    (tie.spec
-    Inv-loop
-    μ-loop
-    loop-holds
-    mul-start
-    index-1-start
-    index-2-start
-    add-i
-    loop-less
-    loop-again
-    returns)
+    (tie.spec Inv-loop μ-loop loop-holds (search needs) (search needs) (search needs) (search needs) (search needs) loop-again returns)

@@ -16,36 +16,6 @@ abbrev μ-loop : tie.MeasureT-loop
 loop-holds : tie.Need-loop-holds Inv-loop μ-loop
 loop-holds c = λ zs zp t z own end bar. refl
 
-mul-is-next : tie.Need-mul-is-next Inv-loop μ-loop
-mul-is-next c = search needs
-
-index-1-is-next : tie.Need-index-1-is-next Inv-loop μ-loop
-index-1-is-next c = search needs
-
-index-2-is-next : tie.Need-index-2-is-next Inv-loop μ-loop
-index-2-is-next c = search needs
-
-mul-is-next-2 : tie.Need-mul-is-next-2 Inv-loop μ-loop
-mul-is-next-2 c = search needs
-
-index-1-is-next-2 : tie.Need-index-1-is-next-2 Inv-loop μ-loop
-index-1-is-next-2 c = search needs
-
-index-2-is-next-2 : tie.Need-index-2-is-next-2 Inv-loop μ-loop
-index-2-is-next-2 c = search needs
-
-is-next-requires : tie.Need-is-next-requires Inv-loop μ-loop
-is-next-requires c κs = search needs
-
-mul-result : tie.Need-mul-result Inv-loop μ-loop
-mul-result c = search needs
-
-index-1-result : tie.Need-index-1-result Inv-loop μ-loop
-index-1-result c = search needs
-
-index-2-result : tie.Need-index-2-result Inv-loop μ-loop
-index-2-result c = search needs
-
 cast-result : tie.Need-cast-result Inv-loop μ-loop
 cast-result c = record { fits = omega (arith, c .before .before .is-next .ensures .1) }
 
@@ -55,13 +25,8 @@ returns c =
     let at-call = test .before in
     let in-loop = at-call .before .before .before in
     let head = in-loop .before in
-    behind-here _ _ _ _ (head .before .args .from) (head .loop .i) (head .loop .inv) (in-loop .loop-test .taken) _ (at-call .is-next .ensures .0) (head .before .pre .1) (test .if1 .taken)
-
-add-i : tie.Need-add-i Inv-loop μ-loop
-add-i c = search needs
-
-loop-less : tie.Need-loop-less Inv-loop μ-loop
-loop-less c = search needs
+    behind-here _ _ _ _ (head .before .args .from) (head .loop .i) (head .loop .inv) (in-loop .loop-test .taken) _
+    (at-call .is-next .ensures .0) (head .before .pre .1) (test .if1 .taken)
 
 loop-again : tie.Need-loop-again Inv-loop μ-loop
 loop-again c =
@@ -76,23 +41,5 @@ returns-2 c = behind-none _ _ _ _ (c .before .before .args .from) (c .before .lo
 pub zone-behind-spec : {M : Type 1} → statement M
 zone-behind-spec =
     tie.close
-    (tie.spec
-    Inv-loop
-    μ-loop
-    loop-holds
-    mul-is-next
-    index-1-is-next
-    index-2-is-next
-    mul-is-next-2
-    index-1-is-next-2
-    index-2-is-next-2
-    is-next-requires
-    mul-result
-    index-1-result
-    index-2-result
-    cast-result
-    returns
-    add-i
-    loop-less
-    loop-again
-    returns-2)
+    (tie.spec Inv-loop μ-loop loop-holds (search needs) (search needs) (search needs) (search needs) (search needs) (search needs)
+    (search needs) (search needs) (search needs) (search needs) cast-result returns (search needs) (search needs) loop-again returns-2)
