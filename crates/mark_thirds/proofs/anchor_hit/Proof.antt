@@ -37,12 +37,6 @@ beat head =
 loop-holds : tie.Need-loop-holds Inv-loop μ-loop
 loop-holds c = λ l t. refl
 
-next-end-requires : tie.Need-next-end-requires Inv-loop μ-loop
-next-end-requires c κs = search needs
-
-enum-known-end : tie.Need-enum-known-end Inv-loop μ-loop
-enum-known-end c = search needs
-
 enum-told : tie.Need-enum-told Inv-loop μ-loop
 enum-told c = search needs
 
@@ -54,15 +48,6 @@ returns c =
       λ l t. hits-over (beat head) _ _ (head .loop .inv l t)
           (bars-over l (start head .args .side .buy) _ (head .loop .k) (found .next-end .result) (found .next-end .ensures .1 l t) (c .enum-told .given .1)),
     )
-
-cast-hit-at : tie.Need-cast-hit-at Inv-loop μ-loop
-cast-hit-at c = search needs
-
-hit-at-requires : tie.Need-hit-at-requires Inv-loop μ-loop
-hit-at-requires c κs = search needs
-
-is-hit-requires : tie.Need-is-hit-requires Inv-loop μ-loop
-is-hit-requires c κs = search needs
 
 returns-2 : tie.Need-returns-2 Inv-loop μ-loop
 returns-2 c =
@@ -102,18 +87,5 @@ returns-3 c =
 pub anchor-hit-spec : {M : Type 1} → statement M
 anchor-hit-spec =
     tie.close
-    (tie.spec
-    Inv-loop
-    μ-loop
-    loop-holds
-    next-end-requires
-    enum-known-end
-    enum-told
-    returns
-    cast-hit-at
-    hit-at-requires
-    is-hit-requires
-    returns-2
-    loop-less
-    loop-again
-    returns-3)
+    (tie.spec Inv-loop μ-loop loop-holds (search needs) (search needs) enum-told returns (search needs) (search needs) (search needs) returns-2
+    loop-less loop-again returns-3)

@@ -39,28 +39,13 @@ quotes head = record { highs = start head .args .highs .now; lows = start head .
 abbrev side : tie.At-loop Inv-loop μ-loop → Side
 side head = start head .args .side
 
-anchors-of-requires : tie.Need-anchors-of-requires Inv-loop μ-loop
-anchors-of-requires c κs = search needs
-
 loop-holds : tie.Need-loop-holds Inv-loop μ-loop
 loop-holds c =
     let begun = c .before .before .before .before .before .before in
     (omega arith, omega arith, omega arith, refl, begun .pre .1 .2 .1, λ l f t w. w)
 
-anchor-at-requires : tie.Need-anchor-at-requires Inv-loop μ-loop
-anchor-at-requires c κs = search needs
-
-add-i : tie.Need-add-i Inv-loop μ-loop
-add-i c = search needs
-
-enum-known-price : tie.Need-enum-known-price Inv-loop μ-loop
-enum-known-price c = search needs
-
 enum-told : tie.Need-enum-told Inv-loop μ-loop
 enum-told c = search needs
-
-loop-less : tie.Need-loop-less Inv-loop μ-loop
-loop-less c = search needs
 
 loop-again : tie.Need-loop-again Inv-loop μ-loop
 loop-again c =
@@ -83,9 +68,6 @@ loop-again c =
           (inv .5 l f t w),
     )
 
-anchor-hit-requires : tie.Need-anchor-hit-requires Inv-loop μ-loop
-anchor-hit-requires c κs = search needs
-
 put-hit-requires : tie.Need-put-hit-requires Inv-loop μ-loop
 put-hit-requires c κs =
     let at-hit = c .before .before in
@@ -97,9 +79,6 @@ put-hit-requires c κs =
       (omega (arith, inv .3, pre .1 .2 .0), inv .4),
       hit-on-bar (quotes head) (side head .buy) (at-hit .anchor-hit .result) (at-hit .anchor-hit .ensures .0) (pre .1 .0) (pre .1 .1),
     )
-
-loop-less-2 : tie.Need-loop-less-2 Inv-loop μ-loop
-loop-less-2 c = search needs
 
 loop-again-2 : tie.Need-loop-again-2 Inv-loop μ-loop
 loop-again-2 c =
@@ -128,9 +107,6 @@ loop-again-2 c =
           (at-put .put-hit .ensures .1 (start head .args .found) _ (inv .5 l f t w)),
     )
 
-same-length : tie.Need-same-length Inv-loop μ-loop
-same-length c = search needs
-
 returns : tie.Need-returns Inv-loop μ-loop
 returns c =
     let head = c .before in
@@ -139,26 +115,12 @@ returns c =
       (inv .1, omega (arith, inv .0, inv .2, few, start head .pre .0), (inv .3, inv .4)),
       λ l f t w.
           let table = head .before .anchors-of .ensures .1 l t in
-          marked-all (anchorThird l (quotes head) (side head .buy)) _ _ _ _ f (anchorsIn l (side head)) (head .loop .i) (omega (arith, c .loop-test .left, table .count)) (inv .5 l f t w),
+          marked-all (anchorThird l (quotes head) (side head .buy)) _ _ _ _ f (anchorsIn l (side head)) (head .loop .i)
+          (omega (arith, c .loop-test .left, table .count)) (inv .5 l f t w),
     )
 
 pub anchor-marks-spec : {M : Type 1} → statement M
 anchor-marks-spec =
     tie.close
-    (tie.spec
-    Inv-loop
-    μ-loop
-    anchors-of-requires
-    loop-holds
-    anchor-at-requires
-    add-i
-    enum-known-price
-    enum-told
-    loop-less
-    loop-again
-    anchor-hit-requires
-    put-hit-requires
-    loop-less-2
-    loop-again-2
-    same-length
-    returns)
+    (tie.spec Inv-loop μ-loop (search needs) loop-holds (search needs) (search needs) (search needs) enum-told (search needs) loop-again
+    (search needs) put-hit-requires (search needs) loop-again-2 (search needs) returns)

@@ -15,9 +15,6 @@ told c = c .before .before .before .before
 abbrev start : tie.After-hit → tie.Start
 start c = c .before .before .before
 
-enum-known-hit : tie.Need-enum-known-hit
-enum-known-hit c = search needs
-
 enum-told : tie.Need-enum-told
 enum-told c = search needs
 
@@ -31,15 +28,6 @@ returns c =
 cast-key-of : tie.Need-cast-key-of
 cast-key-of c = record { fits = subst OnBar (c .before .hit .given .1) (start (c .before) .pre .2) }
 
-key-of-requires : tie.Need-key-of-requires
-key-of-requires c κs = search needs
-
-seen-requires : tie.Need-seen-requires
-seen-requires c κs = search needs
-
-same-length : tie.Need-same-length
-same-length c = search needs
-
 returns-2 : tie.Need-returns-2
 returns-2 c =
     let at-seen = c .before in
@@ -49,24 +37,6 @@ returns-2 c =
           hit-put zoned _ _ _ l _ (begun .args .buy) _ (begun .args .hit) _ _ _ (told at-seen .hit .given .1) (at-seen .before .before .key-of .ensures)
           (put-repeat zoned _ _ _ l w _ _ (begun .args .p) (omega (arith, begun .pre)) _ (at-seen .seen .ensures) (c .if1 .taken)),
     )
-
-mul-keys : tie.Need-mul-keys
-mul-keys c = search needs
-
-slice-write-keys : tie.Need-slice-write-keys
-slice-write-keys c = search needs
-
-mul-t14 : tie.Need-mul-t14
-mul-t14 c = search needs
-
-element-set-from-marks : tie.Need-element-set-from-marks
-element-set-from-marks c = search needs
-
-add-result : tie.Need-add-result
-add-result c = search needs
-
-same-length-2 : tie.Need-same-length-2
-same-length-2 c = search needs
 
 returns-3 : tie.Need-returns-3
 returns-3 c =
@@ -81,19 +51,5 @@ returns-3 c =
 pub put-hit-spec : {M : Type 1} → statement M
 put-hit-spec =
     tie.close
-    (tie.spec
-    enum-known-hit
-    enum-told
-    returns
-    cast-key-of
-    key-of-requires
-    seen-requires
-    same-length
-    returns-2
-    mul-keys
-    slice-write-keys
-    mul-t14
-    element-set-from-marks
-    add-result
-    same-length-2
-    returns-3)
+    (tie.spec (search needs) enum-told returns cast-key-of (search needs) (search needs) (search needs) returns-2 (search needs) (search needs)
+    (search needs) (search needs) (search needs) (search needs) returns-3)

@@ -21,43 +21,22 @@ abbrev μ-loop : tie.MeasureT-loop
 loop-holds : tie.Need-loop-holds Inv-loop μ-loop
 loop-holds c = (omega arith, refl)
 
-mul-met : tie.Need-mul-met Inv-loop μ-loop
-mul-met c = search needs
-
-shared-slice-read-met : tie.Need-shared-slice-read-met Inv-loop μ-loop
-shared-slice-read-met c = search needs
-
-add-i : tie.Need-add-i Inv-loop μ-loop
-add-i c = search needs
-
-loop-less : tie.Need-loop-less Inv-loop μ-loop
-loop-less c = search needs
-
 loop-again : tie.Need-loop-again Inv-loop μ-loop
 loop-again c =
     let in-loop = c .before in
     let head = in-loop .before in
     let args = head .before .args in (
       omega arith,
-      met-more (λ (k : ℕ). eqb k (args .key)) _ (head .loop .i) (args .keys .now) (head .loop .met) _ (head .before .pre) (head .loop .inv .1) 0 (in-loop .loop-test .taken),
+      met-more (λ (k : ℕ). eqb k (args .key)) _ (head .loop .i) (args .keys .now) (head .loop .met) _ (head .before .pre)
+          (head .loop .inv .1) 0 (in-loop .loop-test .taken),
     )
 
 returns : tie.Need-returns Inv-loop μ-loop
 returns c =
     let head = c .before in
     let args = head .before .args in
-    met-none (λ (k : ℕ). eqb k (args .key)) _ (head .loop .i) (args .keys .now) (head .loop .met) _ (head .before .pre) (head .loop .inv .1) (c .loop-test .left)
+    met-none (λ (k : ℕ). eqb k (args .key)) _ (head .loop .i) (args .keys .now) (head .loop .met) _ (head .before .pre)
+    (head .loop .inv .1) (c .loop-test .left)
 
 pub seen-spec : {M : Type 1} → statement M
-seen-spec =
-    tie.close
-    (tie.spec
-    Inv-loop
-    μ-loop
-    loop-holds
-    mul-met
-    shared-slice-read-met
-    add-i
-    loop-less
-    loop-again
-    returns)
+seen-spec = tie.close (tie.spec Inv-loop μ-loop loop-holds (search needs) (search needs) (search needs) (search needs) loop-again returns)

@@ -37,33 +37,6 @@ quotes head = record { highs = start head .args .highs .now; lows = start head .
 loop-holds : tie.Need-loop-holds Inv-loop μ-loop
 loop-holds c = (omega arith, omega arith, refl, c .before .before .before .pre .3 .1, λ l zb t s. marked-none _ _ _)
 
-scan-at-requires : tie.Need-scan-at-requires Inv-loop μ-loop
-scan-at-requires c κs = search needs
-
-mul-edge-of : tie.Need-mul-edge-of Inv-loop μ-loop
-mul-edge-of c = search needs
-
-index-1-edge-of : tie.Need-index-1-edge-of Inv-loop μ-loop
-index-1-edge-of c = search needs
-
-index-2-edge-of : tie.Need-index-2-edge-of Inv-loop μ-loop
-index-2-edge-of c = search needs
-
-mul-edge-of-2 : tie.Need-mul-edge-of-2 Inv-loop μ-loop
-mul-edge-of-2 c = search needs
-
-index-1-edge-of-2 : tie.Need-index-1-edge-of-2 Inv-loop μ-loop
-index-1-edge-of-2 c = search needs
-
-index-2-edge-of-2 : tie.Need-index-2-edge-of-2 Inv-loop μ-loop
-index-2-edge-of-2 c = search needs
-
-edge-of-requires : tie.Need-edge-of-requires Inv-loop μ-loop
-edge-of-requires c κs = search needs
-
-zone-hit-requires : tie.Need-zone-hit-requires Inv-loop μ-loop
-zone-hit-requires c κs = search needs
-
 put-hit-requires : tie.Need-put-hit-requires Inv-loop μ-loop
 put-hit-requires c κs =
     let at-hit = c .before .before .before in
@@ -76,12 +49,6 @@ put-hit-requires c κs =
       (omega (arith, inv .2, pre .3 .0), inv .3),
       hit-on-bar (quotes head) (isUp (turned .scan-at .result .direction)) (at-hit .zone-hit .result) (at-hit .zone-hit .ensures .0) (pre .1) (pre .2),
     )
-
-add-i : tie.Need-add-i Inv-loop μ-loop
-add-i c = search needs
-
-loop-less : tie.Need-loop-less Inv-loop μ-loop
-loop-less c = search needs
 
 loop-again : tie.Need-loop-again Inv-loop μ-loop
 loop-again c =
@@ -108,15 +75,6 @@ loop-again c =
           (at-put .put-hit .ensures .1 512 _ (inv .4 l zb t s)),
     )
 
-side-of-requires : tie.Need-side-of-requires Inv-loop μ-loop
-side-of-requires c κs = search needs
-
-anchor-marks-requires : tie.Need-anchor-marks-requires Inv-loop μ-loop
-anchor-marks-requires c κs = search needs
-
-same-length : tie.Need-same-length Inv-loop μ-loop
-same-length c = search needs
-
 returns : tie.Need-returns Inv-loop μ-loop
 returns c =
     let anchors = c .before .before in
@@ -137,24 +95,6 @@ returns c =
 pub thirds-of-spec : {M : Type 1} → statement M
 thirds-of-spec =
     tie.close
-    (tie.spec
-    Inv-loop
-    μ-loop
-    loop-holds
-    scan-at-requires
-    mul-edge-of
-    index-1-edge-of
-    index-2-edge-of
-    mul-edge-of-2
-    index-1-edge-of-2
-    index-2-edge-of-2
-    edge-of-requires
-    zone-hit-requires
-    put-hit-requires
-    add-i
-    loop-less
-    loop-again
-    side-of-requires
-    anchor-marks-requires
-    same-length
-    returns)
+    (tie.spec Inv-loop μ-loop loop-holds (search needs) (search needs) (search needs) (search needs) (search needs) (search needs)
+    (search needs) (search needs) (search needs) put-hit-requires (search needs) (search needs) loop-again (search needs) (search needs)
+    (search needs) returns)

@@ -24,17 +24,8 @@ Inv-loop bars prices m scan p highs lows buy at₀ at =
 abbrev μ-loop : tie.MeasureT-loop
 μ-loop bars prices m scan p highs lows buy at₀ at = m - at
 
-cast-at : tie.Need-cast-at Inv-loop μ-loop
-cast-at c = search needs
-
 loop-holds : tie.Need-loop-holds Inv-loop μ-loop
 loop-holds c = λ l stop t lim. refl
-
-next-pair-requires : tie.Need-next-pair-requires Inv-loop μ-loop
-next-pair-requires c κs = search needs
-
-enum-known-pair : tie.Need-enum-known-pair Inv-loop μ-loop
-enum-known-pair c = search needs
 
 enum-told : tie.Need-enum-told Inv-loop μ-loop
 enum-told c = search needs
@@ -47,12 +38,6 @@ returns c =
       λ l stop t lim. hits-over _ _ _ (head .loop .inv l stop t lim)
           (pair-over _ _ _ _ (found .next-pair .ensures .1 l stop t lim) (c .enum-told .given .1)),
     )
-
-hit-at-requires : tie.Need-hit-at-requires Inv-loop μ-loop
-hit-at-requires c κs = search needs
-
-is-hit-requires : tie.Need-is-hit-requires Inv-loop μ-loop
-is-hit-requires c κs = search needs
 
 returns-2 : tie.Need-returns-2 Inv-loop μ-loop
 returns-2 c =
@@ -95,18 +80,5 @@ returns-3 c =
 pub zone-hit-spec : {M : Type 1} → statement M
 zone-hit-spec =
     tie.close
-    (tie.spec
-    Inv-loop
-    μ-loop
-    cast-at
-    loop-holds
-    next-pair-requires
-    enum-known-pair
-    enum-told
-    returns
-    hit-at-requires
-    is-hit-requires
-    returns-2
-    loop-less
-    loop-again
-    returns-3)
+    (tie.spec Inv-loop μ-loop (search needs) loop-holds (search needs) (search needs) enum-told returns (search needs) (search needs) returns-2
+    loop-less loop-again returns-3)
