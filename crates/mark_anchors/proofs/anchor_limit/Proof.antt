@@ -21,30 +21,6 @@ abbrev μ-loop : tie.MeasureT-loop
 loop-holds : tie.Need-loop-holds Inv-loop μ-loop
 loop-holds c = (c .pre .0, λ l t. refl)
 
-mul-is-way : tie.Need-mul-is-way Inv-loop μ-loop
-mul-is-way c = search needs
-
-index-1-is-way : tie.Need-index-1-is-way Inv-loop μ-loop
-index-1-is-way c = search needs
-
-index-2-is-way : tie.Need-index-2-is-way Inv-loop μ-loop
-index-2-is-way c = search needs
-
-is-way-requires : tie.Need-is-way-requires Inv-loop μ-loop
-is-way-requires c κs = search needs
-
-mul-limit-at : tie.Need-mul-limit-at Inv-loop μ-loop
-mul-limit-at c = search needs
-
-index-1-limit-at : tie.Need-index-1-limit-at Inv-loop μ-loop
-index-1-limit-at c = search needs
-
-index-2-limit-at : tie.Need-index-2-limit-at Inv-loop μ-loop
-index-2-limit-at c = search needs
-
-limit-at-requires : tie.Need-limit-at-requires Inv-loop μ-loop
-limit-at-requires c κs = search needs
-
 returns : tie.Need-returns Inv-loop μ-loop
 returns c =
     let test = c .before .before in
@@ -52,12 +28,6 @@ returns c =
     let head = turn .before in
     λ l b t. other-here l _ _ t _ (head .loop .j) (head .loop .inv .1 l t) (turn .loop-test .taken) _ (test .before .is-way .ensures) (test .if1 .taken)
     _ (c .limit-at .ensures l b)
-
-add-j : tie.Need-add-j Inv-loop μ-loop
-add-j c = search needs
-
-loop-less : tie.Need-loop-less Inv-loop μ-loop
-loop-less c = search needs
 
 loop-again : tie.Need-loop-again Inv-loop μ-loop
 loop-again c =
@@ -73,20 +43,5 @@ returns-2 c =
 pub anchor-limit-spec : {M : Type 1} → statement M
 anchor-limit-spec =
     tie.close
-    (tie.spec
-    Inv-loop
-    μ-loop
-    loop-holds
-    mul-is-way
-    index-1-is-way
-    index-2-is-way
-    is-way-requires
-    mul-limit-at
-    index-1-limit-at
-    index-2-limit-at
-    limit-at-requires
-    returns
-    add-j
-    loop-less
-    loop-again
-    returns-2)
+    (tie.spec Inv-loop μ-loop loop-holds (search needs) (search needs) (search needs) (search needs) (search needs) (search needs)
+    (search needs) (search needs) returns (search needs) (search needs) loop-again returns-2)

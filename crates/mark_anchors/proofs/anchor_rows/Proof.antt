@@ -24,28 +24,13 @@ head-of c = c .before .before .before .before
 abbrev anchor-of : tie.After-known-told Inv-loop μ-loop → tie.After-anchor-at Inv-loop μ-loop
 anchor-of c = c .before .before .before
 
-anchors-of-requires : tie.Need-anchors-of-requires Inv-loop μ-loop
-anchors-of-requires c κs = search needs
-
 loop-holds : tie.Need-loop-holds Inv-loop μ-loop
 loop-holds c =
     let first = c .before .before .before .before .before .before .before in
     anchors-first _ _ _ (first .args .side) _ _ _ _ _ _ _ (c .anchors-of .ensures .0) (c .anchors-of .ensures .1)
 
-anchor-at-requires : tie.Need-anchor-at-requires Inv-loop μ-loop
-anchor-at-requires c κs = search needs
-
-add-i : tie.Need-add-i Inv-loop μ-loop
-add-i c = search needs
-
-enum-known-price : tie.Need-enum-known-price Inv-loop μ-loop
-enum-known-price c = search needs
-
 enum-told : tie.Need-enum-told Inv-loop μ-loop
 enum-told c = search needs
-
-loop-less : tie.Need-loop-less Inv-loop μ-loop
-loop-less c = search needs
 
 loop-again : tie.Need-loop-again Inv-loop μ-loop
 loop-again c =
@@ -64,9 +49,6 @@ hit-rows-requires c κs =
       (room .0, room .1, inv .room (room .0) (room .1) (room .2)),
     )
 
-loop-less-2 : tie.Need-loop-less-2 Inv-loop μ-loop
-loop-less-2 c = search needs
-
 loop-again-2 : tie.Need-loop-again-2 Inv-loop μ-loop
 loop-again-2 c =
     let rows = c .before .before .before .before in
@@ -78,12 +60,6 @@ loop-again-2 c =
     anchors-at _ _ _ (start head .args .side) _ _ _ _ _ _ _ _ _ _ (head .loop .i) (head .loop .inv) (turn .loop-test .taken)
     (read .anchor-at .result) (read .anchor-at .ensures) _ (told .before .price .given .1) _ _ _ (own .0) (own .1 .0) (own .1 .1)
 
-same-length : tie.Need-same-length Inv-loop μ-loop
-same-length c = search needs
-
-same-length-2 : tie.Need-same-length-2 Inv-loop μ-loop
-same-length-2 c = search needs
-
 returns : tie.Need-returns Inv-loop μ-loop
 returns c =
     let head = c .before in
@@ -93,20 +69,5 @@ returns c =
 pub anchor-rows-spec : {M : Type 1} → statement M
 anchor-rows-spec =
     tie.close
-    (tie.spec
-    Inv-loop
-    μ-loop
-    anchors-of-requires
-    loop-holds
-    anchor-at-requires
-    add-i
-    enum-known-price
-    enum-told
-    loop-less
-    loop-again
-    hit-rows-requires
-    loop-less-2
-    loop-again-2
-    same-length
-    same-length-2
-    returns)
+    (tie.spec Inv-loop μ-loop (search needs) loop-holds (search needs) (search needs) (search needs) enum-told (search needs) loop-again
+    hit-rows-requires (search needs) loop-again-2 (search needs) (search needs) returns)

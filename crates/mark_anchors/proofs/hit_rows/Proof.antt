@@ -50,20 +50,8 @@ few c =
 loop-holds : tie.Need-loop-holds Inv-loop μ-loop
 loop-holds c = pushed-first _ _ _ (c .before .before .before .before .args .hits) _ _ _
 
-next-end-requires : tie.Need-next-end-requires Inv-loop μ-loop
-next-end-requires c κs = search needs
-
-enum-known-end : tie.Need-enum-known-end Inv-loop μ-loop
-enum-known-end c = search needs
-
 enum-told : tie.Need-enum-told Inv-loop μ-loop
 enum-told c = search needs
-
-same-length : tie.Need-same-length Inv-loop μ-loop
-same-length c = search needs
-
-same-length-2 : tie.Need-same-length-2 Inv-loop μ-loop
-same-length-2 c = search needs
 
 returns : tie.Need-returns Inv-loop μ-loop
 returns c =
@@ -73,15 +61,6 @@ returns c =
       pushed-over _ _ _ (start head .args .hits) _ _ _ _ _ _ _ _ inv (ended .next-end .result) (ended .next-end .ensures .1) (c .enum-told .given .1),
       (inv .room, inv .grown),
     )
-
-reached-requires : tie.Need-reached-requires Inv-loop μ-loop
-reached-requires c κs = search needs
-
-same-length-3 : tie.Need-same-length-3 Inv-loop μ-loop
-same-length-3 c = search needs
-
-same-length-4 : tie.Need-same-length-4 Inv-loop μ-loop
-same-length-4 c = search needs
 
 returns-2 : tie.Need-returns-2 Inv-loop μ-loop
 returns-2 c =
@@ -93,15 +72,6 @@ returns-2 c =
           (at .before .before .end .given .1) (at .reached .ensures .1) _ (at .reached .ensures .0) (c .if1 .taken),
       (inv .room, inv .grown),
     )
-
-cast-hit-at : tie.Need-cast-hit-at Inv-loop μ-loop
-cast-hit-at c = search needs
-
-hit-at-requires : tie.Need-hit-at-requires Inv-loop μ-loop
-hit-at-requires c κs = search needs
-
-is-hit-requires : tie.Need-is-hit-requires Inv-loop μ-loop
-is-hit-requires c κs = search needs
 
 loop-less : tie.Need-loop-less Inv-loop μ-loop
 loop-less c =
@@ -115,11 +85,8 @@ loop-again c =
     let ended = end-of at in
     let head = head-of ended in
     pushed-missed _ _ _ (start head .args .hits) _ _ _ _ _ _ _ _ (head .loop .inv) (ended .next-end .result) (ended .next-end .ensures .1) _ _ _
-    (at .before .before .end .given .1) (at .reached .ensures .1) _ (at .reached .ensures .0) (hit .before .before .if1 .left) (later at .0) (hit .before .hit-at .result) _
-    (hit .before .hit-at .ensures .1) (hit .is-hit .ensures) (not-true _ (c .if2 .taken))
-
-key-of-requires : tie.Need-key-of-requires Inv-loop μ-loop
-key-of-requires c κs = search needs
+    (at .before .before .end .given .1) (at .reached .ensures .1) _ (at .reached .ensures .0) (hit .before .before .if1 .left) (later at .0)
+    (hit .before .hit-at .result) _ (hit .before .hit-at .ensures .1) (hit .is-hit .ensures) (not-true _ (c .if2 .taken))
 
 sub-hit-row : tie.Need-sub-hit-row Inv-loop μ-loop
 sub-hit-row c =
@@ -158,15 +125,10 @@ loop-again-2 c =
     let ended = end-of at in
     let head = head-of ended in
     pushed-more _ _ _ (start head .args .hits) _ _ _ _ _ _ _ _ (head .loop .inv) (ended .next-end .result) (ended .next-end .ensures .1) _ _ _
-    (at .before .before .end .given .1) (at .reached .ensures .1) _ (at .reached .ensures .0) (hit .before .before .if1 .left) (later at .0) (hit .before .hit-at .result) _
-    (hit .before .hit-at .ensures .1) (hit .is-hit .ensures) (not-false _ (row .before .before .before .before .before .if2 .left)) _ _ _ _ (row .before .before .before .before .key-of .ensures)
+    (at .before .before .end .given .1) (at .reached .ensures .1) _ (at .reached .ensures .0) (hit .before .before .if1 .left) (later at .0)
+    (hit .before .hit-at .result) _ (hit .before .hit-at .ensures .1) (hit .is-hit .ensures)
+    (not-false _ (row .before .before .before .before .before .if2 .left)) _ _ _ _ (row .before .before .before .before .key-of .ensures)
     (row .hit-row .ensures .0) (row .hit-row .ensures .1 .0) (row .hit-row .ensures .1 .1)
-
-same-length-5 : tie.Need-same-length-5 Inv-loop μ-loop
-same-length-5 c = search needs
-
-same-length-6 : tie.Need-same-length-6 Inv-loop μ-loop
-same-length-6 c = search needs
 
 returns-3 : tie.Need-returns-3 Inv-loop μ-loop
 returns-3 c =
@@ -179,31 +141,6 @@ returns-3 c =
 pub hit-rows-spec : {M : Type 1} → statement M
 hit-rows-spec =
     tie.close
-    (tie.spec
-    Inv-loop
-    μ-loop
-    loop-holds
-    next-end-requires
-    enum-known-end
-    enum-told
-    same-length
-    same-length-2
-    returns
-    reached-requires
-    same-length-3
-    same-length-4
-    returns-2
-    cast-hit-at
-    hit-at-requires
-    is-hit-requires
-    loop-less
-    loop-again
-    key-of-requires
-    sub-hit-row
-    hit-row-requires
-    add-order
-    loop-less-2
-    loop-again-2
-    same-length-5
-    same-length-6
-    returns-3)
+    (tie.spec Inv-loop μ-loop loop-holds (search needs) (search needs) enum-told (search needs) (search needs) returns (search needs)
+    (search needs) (search needs) returns-2 (search needs) (search needs) (search needs) loop-less loop-again (search needs) sub-hit-row
+    hit-row-requires add-order loop-less-2 loop-again-2 (search needs) (search needs) returns-3)

@@ -8,12 +8,6 @@ use Rattle.mark_anchors.proofs.limit_at.Tie as tie
 returns : tie.Need-returns
 returns c = λ l t. limit-no-big l _ _ _ t _ (c .if1 .taken)
 
-point-at-requires : tie.Need-point-at-requires
-point-at-requires c κs = search needs
-
-enum-known-bar : tie.Need-enum-known-bar
-enum-known-bar c = search needs
-
 enum-told : tie.Need-enum-told
 enum-told c = search needs
 
@@ -22,15 +16,10 @@ returns-2 c =
     let read = c .before .before in
     λ l t. limit-nowhere l _ _ _ t _ (read .before .if1 .left) (sym (read .point-at .ensures) ∙ c .enum-told .given .1)
 
-cast-result : tie.Need-cast-result
-cast-result c = search needs
-
 returns-3 : tie.Need-returns-3
 returns-3 c =
     let read = c .before .before .before in
     λ l t. limit-there l _ _ _ t _ (read .before .if1 .left) _ _ (sym (read .point-at .ensures) ∙ c .before .bar .given .1)
 
 pub limit-at-spec : {M : Type 1} → statement M
-limit-at-spec =
-    tie.close
-    (tie.spec returns point-at-requires enum-known-bar enum-told returns-2 cast-result returns-3)
+limit-at-spec = tie.close (tie.spec returns (search needs) (search needs) enum-told returns-2 (search needs) returns-3)

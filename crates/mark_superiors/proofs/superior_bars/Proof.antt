@@ -27,9 +27,6 @@ scan-at-requires c κs =
     let few = begun (c .before .before) .pre .0 .0 .zones in
     search needs
 
-same-length : tie.Need-same-length Inv-loop μ-loop
-same-length c = search needs
-
 returns : tie.Need-returns Inv-loop μ-loop
 returns c =
     let read = c .before .before in
@@ -45,12 +42,6 @@ zone-bars-requires c κs =
       (pre .1 .0, pre .1 .2 .bigs, inv .among (pre .1 .0) (pre .1 .1) (pre .1 .2) (pre .1 .3)),
     )
 
-add-i : tie.Need-add-i Inv-loop μ-loop
-add-i c = search needs
-
-loop-less : tie.Need-loop-less Inv-loop μ-loop
-loop-less c = search needs
-
 loop-again : tie.Need-loop-again Inv-loop μ-loop
 loop-again c =
     let met = c .before .before .zone-bars in
@@ -58,9 +49,6 @@ loop-again c =
     let read = own .before .before in
     taken-next _ _ _ _ _ _ _ _ _ (head read .loop .inv) _ (read .scan-at .ensures) (read .before .if1 .taken) (own .if2 .left)
     _ _ (met .ensures .1) (met .ensures .0 .0) (met .ensures .0 .1)
-
-same-length-2 : tie.Need-same-length-2 Inv-loop μ-loop
-same-length-2 c = search needs
 
 returns-2 : tie.Need-returns-2 Inv-loop μ-loop
 returns-2 c =
@@ -70,16 +58,5 @@ returns-2 c =
 pub superior-bars-spec : {M : Type 1} → statement M
 superior-bars-spec =
     tie.close
-    (tie.spec
-    Inv-loop
-    μ-loop
-    loop-holds
-    scan-at-requires
-    same-length
-    returns
-    zone-bars-requires
-    add-i
-    loop-less
-    loop-again
-    same-length-2
-    returns-2)
+    (tie.spec Inv-loop μ-loop loop-holds scan-at-requires (search needs) returns zone-bars-requires (search needs) (search needs) loop-again
+    (search needs) returns-2)

@@ -39,27 +39,12 @@ cast-superior-bars c =
     let few = begun (head c) .pre .0 .0 .superiors in
     search needs
 
-slice-aggregate-superior-bars : tie.Need-slice-aggregate-superior-bars Inv-loop μ-loop
-slice-aggregate-superior-bars c = search needs
-
 superior-bars-requires : tie.Need-superior-bars-requires Inv-loop μ-loop
 superior-bars-requires c κs =
     let here = head (c .before) in
     let pre = begun here .pre in
     let chart = pre .1 in
     ((pre .0 .0, here .loop .inv .wide), (chart .0, _, chart .1, room-among _ _ _ (chart .2)))
-
-mul-buy : tie.Need-mul-buy Inv-loop μ-loop
-mul-buy c = search needs
-
-index-1-buy : tie.Need-index-1-buy Inv-loop μ-loop
-index-1-buy c = search needs
-
-index-2-buy : tie.Need-index-2-buy Inv-loop μ-loop
-index-2-buy c = search needs
-
-slice-aggregate-number-bars : tie.Need-slice-aggregate-number-bars Inv-loop μ-loop
-slice-aggregate-number-bars c = search needs
 
 number-bars-requires : tie.Need-number-bars-requires Inv-loop μ-loop
 number-bars-requires c κs =
@@ -83,12 +68,6 @@ number-bars-requires c κs =
       ),
     )
 
-add-i : tie.Need-add-i Inv-loop μ-loop
-add-i c = search needs
-
-loop-less : tie.Need-loop-less Inv-loop μ-loop
-loop-less c = search needs
-
 loop-again : tie.Need-loop-again Inv-loop μ-loop
 loop-again c =
     let rows = c .before .before .before .before .number-bars .ensures in
@@ -98,12 +77,6 @@ loop-again c =
     numbered-next _ _ _ _ _ _ _ _ _ _ _ _ _ _ (head (turn met) .loop .inv) (turn met .if1 .taken) (block .count) (block .next) (bars-of met)
     (got .1) _ _ _ _ (got .0 .1) (rows .0) (rows .1 .0) (rows .1 .1) refl
 
-same-length : tie.Need-same-length Inv-loop μ-loop
-same-length c = search needs
-
-same-length-2 : tie.Need-same-length-2 Inv-loop μ-loop
-same-length-2 c = search needs
-
 returns : tie.Need-returns Inv-loop μ-loop
 returns c =
     let inv = c .before .before .loop .inv in
@@ -112,21 +85,5 @@ returns c =
 pub superior-rows-spec : {M : Type 1} → statement M
 superior-rows-spec =
     tie.close
-    (tie.spec
-    Inv-loop
-    μ-loop
-    loop-holds
-    cast-superior-bars
-    slice-aggregate-superior-bars
-    superior-bars-requires
-    mul-buy
-    index-1-buy
-    index-2-buy
-    slice-aggregate-number-bars
-    number-bars-requires
-    add-i
-    loop-less
-    loop-again
-    same-length
-    same-length-2
-    returns)
+    (tie.spec Inv-loop μ-loop loop-holds cast-superior-bars (search needs) superior-bars-requires (search needs) (search needs) (search needs)
+    (search needs) number-bars-requires (search needs) (search needs) loop-again (search needs) (search needs) returns)

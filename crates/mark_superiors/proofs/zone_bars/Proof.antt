@@ -26,25 +26,13 @@ few c =
     let chart = begun c .pre .1 in
     put-room _ _ _ _ _ _ _ _ _ (c .loop .at) (c .loop .inv) (chart .0) (chart .1) (chart .2)
 
-cast-at : tie.Need-cast-at Inv-loop μ-loop
-cast-at c = search needs
-
 loop-holds : tie.Need-loop-holds Inv-loop μ-loop
 loop-holds c =
     let start = c .before .before in
     put-first _ _ _ _ _ _ (start .pre .0 .1) (start .pre .0 .2)
 
-next-pair-requires : tie.Need-next-pair-requires Inv-loop μ-loop
-next-pair-requires c κs = search needs
-
-enum-known-pair : tie.Need-enum-known-pair Inv-loop μ-loop
-enum-known-pair c = search needs
-
 enum-told : tie.Need-enum-told Inv-loop μ-loop
 enum-told c = search needs
-
-same-length : tie.Need-same-length Inv-loop μ-loop
-same-length c = search needs
 
 returns : tie.Need-returns Inv-loop μ-loop
 returns c =
@@ -86,9 +74,6 @@ loop-again c =
     put-pair _ _ _ _ _ _ _ _ _ (here .loop .at) (here .loop .inv) (pair .result) (pair .ensures .1) _ _ (told .pair .given .1)
     _ _ _ (put .ensures .0) (put .ensures .1 .0) (omega (arith, few here, put .ensures .1 .1 .1)) (put .ensures .1 .1 .2)
 
-same-length-2 : tie.Need-same-length-2 Inv-loop μ-loop
-same-length-2 c = search needs
-
 returns-2 : tie.Need-returns-2 Inv-loop μ-loop
 returns-2 c =
     let inv = c .before .loop .inv in
@@ -97,19 +82,5 @@ returns-2 c =
 pub zone-bars-spec : {M : Type 1} → statement M
 zone-bars-spec =
     tie.close
-    (tie.spec
-    Inv-loop
-    μ-loop
-    cast-at
-    loop-holds
-    next-pair-requires
-    enum-known-pair
-    enum-told
-    same-length
-    returns
-    cast-insert-bar
-    insert-bar-requires
-    loop-less
-    loop-again
-    same-length-2
-    returns-2)
+    (tie.spec Inv-loop μ-loop (search needs) loop-holds (search needs) (search needs) enum-told (search needs) returns cast-insert-bar
+    insert-bar-requires loop-less loop-again (search needs) returns-2)
