@@ -37,14 +37,8 @@ short c =
     let fit = quotes-fit _ _ (sym own ∙ priced (begun c) .quotes-refusal .ensures) in
     (fit .0, fit .1)
 
-quotes-refusal-requires : tie.Need-quotes-refusal-requires
-quotes-refusal-requires c κs = search needs
-
 tables-of-requires : tie.Need-tables-of-requires
 tables-of-requires c κs = ((refl, refl), (refl, refl), refl)
-
-refusal-requires : tie.Need-refusal-requires
-refusal-requires c κs = search needs
 
 returns : tie.Need-returns
 returns c =
@@ -57,16 +51,10 @@ scans-of-requires c κs =
     let t = begun here .tables-of .ensures .1 .0 (here .if1 .left) in
     (t .fits, tables-owners _ _ _ _ _ _ _ t, refl)
 
-slice-aggregate-thirds-of : tie.Need-slice-aggregate-thirds-of
-slice-aggregate-thirds-of c = search needs
-
 thirds-of-requires : tie.Need-thirds-of-requires
 thirds-of-requires c κs =
     let here = known (c .before .before .before .before .before .before .before) in
     (begun here .tables-of .ensures .1 .0 (here .if1 .left) .fits, short here .0, short here .1, (omega arith, refl))
-
-slice-aggregate-rows-of : tie.Need-slice-aggregate-rows-of
-slice-aggregate-rows-of c = search needs
 
 rows-of-requires : tie.Need-rows-of-requires
 rows-of-requires c κs =
@@ -88,14 +76,5 @@ returns-2 c =
 pub bigseg-third-marks-all-zhongshu-spec : {M : Type 1} → statement M
 bigseg-third-marks-all-zhongshu-spec =
     tie.close
-    (tie.spec
-    quotes-refusal-requires
-    tables-of-requires
-    refusal-requires
-    returns
-    scans-of-requires
-    slice-aggregate-thirds-of
-    thirds-of-requires
-    slice-aggregate-rows-of
-    rows-of-requires
-    returns-2)
+    (tie.spec (search needs) tables-of-requires (search needs) returns scans-of-requires (search needs) thirds-of-requires (search needs)
+    rows-of-requires returns-2)

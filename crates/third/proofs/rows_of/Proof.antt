@@ -21,47 +21,11 @@ abbrev μ-loop : tie.MeasureT-loop
 loop-holds : tie.Need-loop-holds Inv-loop μ-loop
 loop-holds c = (omega arith, refl, λ l w. refl)
 
-mul-row-of : tie.Need-mul-row-of Inv-loop μ-loop
-mul-row-of c = search needs
-
-shared-slice-read-row-of : tie.Need-shared-slice-read-row-of Inv-loop μ-loop
-shared-slice-read-row-of c = search needs
-
-mul-row-of-2 : tie.Need-mul-row-of-2 Inv-loop μ-loop
-mul-row-of-2 c = search needs
-
-index-1-row-of : tie.Need-index-1-row-of Inv-loop μ-loop
-index-1-row-of c = search needs
-
-index-2-row-of : tie.Need-index-2-row-of Inv-loop μ-loop
-index-2-row-of c = search needs
-
-mul-row-of-3 : tie.Need-mul-row-of-3 Inv-loop μ-loop
-mul-row-of-3 c = search needs
-
-index-1-row-of-2 : tie.Need-index-1-row-of-2 Inv-loop μ-loop
-index-1-row-of-2 c = search needs
-
-index-2-row-of-2 : tie.Need-index-2-row-of-2 Inv-loop μ-loop
-index-2-row-of-2 c = search needs
-
 row-of-requires : tie.Need-row-of-requires Inv-loop μ-loop
 row-of-requires c κs =
     let turn = c .before .before .before in
     let head = turn .before in
     head .before .before .pre .2 (head .loop .i) (turn .loop-test .taken)
-
-mul-rows : tie.Need-mul-rows Inv-loop μ-loop
-mul-rows c = search needs
-
-array-set-from-rows : tie.Need-array-set-from-rows Inv-loop μ-loop
-array-set-from-rows c = search needs
-
-add-i : tie.Need-add-i Inv-loop μ-loop
-add-i c = search needs
-
-loop-less : tie.Need-loop-less Inv-loop μ-loop
-loop-less c = search needs
 
 loop-again : tie.Need-loop-again Inv-loop μ-loop
 loop-again c =
@@ -71,11 +35,9 @@ loop-again c =
     let inv = head .loop .inv in (
       omega arith,
       simp length-set (inv .1),
-      λ l w. given-next _ _ _ _ l w (head .loop .i) (head .loop .rows) (inv .2 l w) more (omega (arith, inv, more, head .before .before .pre)) _ (c .row-of .ensures),
+      λ l w. given-next _ _ _ _ l w (head .loop .i) (head .loop .rows) (inv .2 l w) more (omega (arith, inv, more, head .before .before .pre))
+          _ (c .row-of .ensures),
     )
-
-cast-t30 : tie.Need-cast-t30 Inv-loop μ-loop
-cast-t30 c = search needs
 
 returns : tie.Need-returns Inv-loop μ-loop
 returns c =
@@ -86,23 +48,5 @@ returns c =
 pub rows-of-spec : {M : Type 1} → statement M
 rows-of-spec =
     tie.close
-    (tie.spec
-    Inv-loop
-    μ-loop
-    loop-holds
-    mul-row-of
-    shared-slice-read-row-of
-    mul-row-of-2
-    index-1-row-of
-    index-2-row-of
-    mul-row-of-3
-    index-1-row-of-2
-    index-2-row-of-2
-    row-of-requires
-    mul-rows
-    array-set-from-rows
-    add-i
-    loop-less
-    loop-again
-    cast-t30
-    returns)
+    (tie.spec Inv-loop μ-loop loop-holds (search needs) (search needs) (search needs) (search needs) (search needs) (search needs)
+    (search needs) (search needs) row-of-requires (search needs) (search needs) (search needs) (search needs) loop-again (search needs) returns)

@@ -35,17 +35,8 @@ quotes c = record { highs = start c .args .highs .now; lows = start c .args .low
 none : (c : tie.Else1) → priced (begun c) .own-number .result ≡ 0
 none c = own-none _ _ (sym (begun c .tables-of .ensures .0) ∙ c .if1 .left)
 
-cast-own-number : tie.Need-cast-own-number
-cast-own-number c = search needs
-
-own-number-requires : tie.Need-own-number-requires
-own-number-requires c κs = search needs
-
 tables-of-requires : tie.Need-tables-of-requires
 tables-of-requires c κs = ((refl, refl), (refl, refl), refl)
-
-refusal-requires : tie.Need-refusal-requires
-refusal-requires c κs = search needs
 
 returns : tie.Need-returns
 returns c =
@@ -58,18 +49,12 @@ scans-of-requires c κs =
     let t = begun here .tables-of .ensures .1 .0 (here .if1 .left) in
     (t .fits, tables-owners _ _ _ _ _ _ _ t, refl)
 
-slice-aggregate-thirds-of : tie.Need-slice-aggregate-thirds-of
-slice-aggregate-thirds-of c = search needs
-
 thirds-of-requires : tie.Need-thirds-of-requires
 thirds-of-requires c κs =
     let here = known (c .before .before .before .before .before .before .before) in
     let own = priced (begun here) in
     let fit = quotes-fit _ _ (quotes-good (start own .args .chart) (quotes own) _ (own .own-number .ensures) (none here)) in
     (begun here .tables-of .ensures .1 .0 (here .if1 .left) .fits, fit .0, fit .1, (omega arith, refl))
-
-slice-aggregate-rows-by : tie.Need-slice-aggregate-rows-by
-slice-aggregate-rows-by c = search needs
 
 rows-by-requires : tie.Need-rows-by-requires
 rows-by-requires c κs =
@@ -105,15 +90,5 @@ returns-2 c =
 pub bigseg-3n-marks-all-zhongshu-spec : {M : Type 1} → statement M
 bigseg-3n-marks-all-zhongshu-spec =
     tie.close
-    (tie.spec
-    cast-own-number
-    own-number-requires
-    tables-of-requires
-    refusal-requires
-    returns
-    scans-of-requires
-    slice-aggregate-thirds-of
-    thirds-of-requires
-    slice-aggregate-rows-by
-    rows-by-requires
-    returns-2)
+    (tie.spec (search needs) (search needs) tables-of-requires (search needs) returns scans-of-requires (search needs) thirds-of-requires
+    (search needs) rows-by-requires returns-2)

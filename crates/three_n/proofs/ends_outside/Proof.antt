@@ -27,35 +27,20 @@ long c = let all : length (c .args .t1) ≡ 512 = search needs in omega (arith, 
 loop-holds : tie.Need-loop-holds Inv-loop μ-loop
 loop-holds c = (omega arith, refl)
 
-mul-s : tie.Need-mul-s Inv-loop μ-loop
-mul-s c = search needs
-
-array-copy-out-s : tie.Need-array-copy-out-s Inv-loop μ-loop
-array-copy-out-s c = search needs
-
-cast-if1 : tie.Need-cast-if1 Inv-loop μ-loop
-cast-if1 c = search needs
-
 returns : tie.Need-returns Inv-loop μ-loop
 returns c =
     let in-loop = c .before .before .before in
     let head = in-loop .before in
-    sym (any-here (λ (s : Stroke). leb _ (s .«end_bar»)) _ (head .loop .i) _ (long (head .before)) no-stroke (in-loop .loop-test .taken) (le-leb _ _ (c .if1 .taken)))
-    ∙ head .loop .inv .1
-
-add-i : tie.Need-add-i Inv-loop μ-loop
-add-i c = search needs
-
-loop-less : tie.Need-loop-less Inv-loop μ-loop
-loop-less c = search needs
+    sym (any-here (λ (s : Stroke). leb _ (s .«end_bar»)) _ (head .loop .i) _ (long (head .before)) no-stroke (in-loop .loop-test .taken)
+    (le-leb _ _ (c .if1 .taken))) ∙ head .loop .inv .1
 
 loop-again : tie.Need-loop-again Inv-loop μ-loop
 loop-again c =
     let in-loop = c .before .before .before in
     let head = in-loop .before in (
       omega (arith, in-loop .loop-test .taken),
-      sym (any-later (λ (s : Stroke). leb _ (s .«end_bar»)) _ (head .loop .i) _ (long (head .before)) no-stroke (in-loop .loop-test .taken) (lt-leb _ _ (c .if1 .left)))
-          ∙ head .loop .inv .1,
+      sym (any-later (λ (s : Stroke). leb _ (s .«end_bar»)) _ (head .loop .i) _ (long (head .before)) no-stroke (in-loop .loop-test .taken)
+          (lt-leb _ _ (c .if1 .left))) ∙ head .loop .inv .1,
     )
 
 returns-2 : tie.Need-returns-2 Inv-loop μ-loop
@@ -66,15 +51,4 @@ returns-2 c =
 pub ends-outside-spec : {M : Type 1} → statement M
 ends-outside-spec =
     tie.close
-    (tie.spec
-    Inv-loop
-    μ-loop
-    loop-holds
-    mul-s
-    array-copy-out-s
-    cast-if1
-    returns
-    add-i
-    loop-less
-    loop-again
-    returns-2)
+    (tie.spec Inv-loop μ-loop loop-holds (search needs) (search needs) (search needs) returns (search needs) (search needs) loop-again returns-2)

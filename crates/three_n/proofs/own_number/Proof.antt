@@ -13,14 +13,8 @@ use Rattle.three_n.proofs.Refused.{own-quotes, own-ends}
 use Rattle.three_n.proofs.own_number.Statement.{statement}
 use Rattle.three_n.proofs.own_number.Tie as tie
 
-quotes-refusal-requires : tie.Need-quotes-refusal-requires
-quotes-refusal-requires c κs = search needs
-
 returns : tie.Need-returns
 returns c = own-quotes _ _ (c .before .quotes-refusal .ensures) _ (c .if1 .taken)
-
-at-most-requires : tie.Need-at-most-requires
-at-most-requires c κs = search needs
 
 ends-outside-requires : tie.Need-ends-outside-requires
 ends-outside-requires c κs = omega (arith, c .at-most .ensures)
@@ -46,12 +40,4 @@ returns-3 c =
     (ap (any (λ (s : Stroke). leb _ (s .«end_bar»))) (sym all) ∙ sym (ends .ends-outside .ensures) ∙ c .if2 .left)
 
 pub own-number-spec : {M : Type 1} → statement M
-own-number-spec =
-    tie.close
-    (tie.spec
-    quotes-refusal-requires
-    returns
-    at-most-requires
-    ends-outside-requires
-    returns-2
-    returns-3)
+own-number-spec = tie.close (tie.spec (search needs) returns (search needs) ends-outside-requires returns-2 returns-3)

@@ -26,24 +26,15 @@ room c =
     let ready = c .pre .1 .1 in
     thirds-room (c .pre .1 .0) _ _ _ (ready .thirds) (omega (arith, ready .tables .bigs .count, c .pre .0 .0 .bigs)) (c .pre .0 .1) (ready .inside)
 
-slice-aggregate-superior-rows : tie.Need-slice-aggregate-superior-rows
-slice-aggregate-superior-rows c = search needs
-
 superior-rows-requires : tie.Need-superior-rows-requires
 superior-rows-requires c κs =
     let s = c .before .before .before .before .before in
     ((s .pre .0 .0, omega (arith, s .pre .0 .3), omega arith), (s .pre .1 .0, s .pre .1 .1 .tables, room s))
 
-side-of-requires : tie.Need-side-of-requires
-side-of-requires c κs = search needs
-
 anchor-limit-requires : tie.Need-anchor-limit-requires
 anchor-limit-requires c κs =
     let fits = start (numbered c) .pre .0 .0 in
     (fits .superiors, fits .bigs)
-
-slice-aggregate-anchor-rows : tie.Need-slice-aggregate-anchor-rows
-slice-aggregate-anchor-rows c = search needs
 
 anchor-rows-requires : tie.Need-anchor-rows-requires
 anchor-rows-requires c κs =
@@ -56,9 +47,6 @@ anchor-rows-requires c κs =
       (side .1, omega (arith, side .0, s .pre .0 .0 .bigs), omega (arith, grown .long, s .pre .0 .3), omega (arith, grown .wide)),
       (s .pre .1 .0, bigs-by _ _ _ _ _ (side .0) (ready .tables .bigs), at-rows .superior-rows .ensures .1 .0 _ (ready .tables) (room s)),
     )
-
-slice-aggregate-rows-of : tie.Need-slice-aggregate-rows-of
-slice-aggregate-rows-of c = search needs
 
 rows-of-requires : tie.Need-rows-of-requires
 rows-of-requires c κs =
@@ -75,9 +63,6 @@ rows-of-requires c κs =
       (most, omega (arith, most, grown .long, before .long, s .pre .0 .3), omega (arith, most, grown .wide, before .wide), s .pre .0 .1),
       room-bars all (ready .inside),
     )
-
-same-length : tie.Need-same-length
-same-length c = search needs
 
 returns : tie.Need-returns
 returns c l ready =
@@ -97,14 +82,5 @@ returns c l ready =
 pub rows-by-spec : {M : Type 1} → statement M
 rows-by-spec =
     tie.close
-    (tie.spec
-    slice-aggregate-superior-rows
-    superior-rows-requires
-    side-of-requires
-    anchor-limit-requires
-    slice-aggregate-anchor-rows
-    anchor-rows-requires
-    slice-aggregate-rows-of
-    rows-of-requires
-    same-length
-    returns)
+    (tie.spec (search needs) superior-rows-requires (search needs) anchor-limit-requires (search needs) anchor-rows-requires (search needs)
+    rows-of-requires (search needs) returns)
