@@ -6,9 +6,6 @@ use Rattle.labels.proofs.Steps.{name-most, label-named, label-extended}
 use Rattle.labels.proofs.label_of.Statement.{statement}
 use Rattle.labels.proofs.label_of.Tie as tie
 
-enum-told : tie.Need-enum-told
-enum-told c = search needs
-
 returns : tie.Need-returns
 returns c =
     let named = c .before .before .before in
@@ -28,4 +25,4 @@ returns-2 c =
 pub label-of-spec : {M : Type 1} → statement M
 label-of-spec =
     tie.close
-    (tie.spec (search needs) (search needs) (search needs) enum-told (search needs) returns (search needs) (search needs) add-t10 returns-2)
+    (tie.spec (search needs) (search needs) (search needs) (search needs) (search needs) returns (search needs) (search needs) add-t10 returns-2)

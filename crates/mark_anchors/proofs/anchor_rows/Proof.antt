@@ -29,9 +29,6 @@ loop-holds c =
     let first = c .before .before .before .before .before .before .before in
     anchors-first _ _ _ (first .args .side) _ _ _ _ _ _ _ (c .anchors-of .ensures .0) (c .anchors-of .ensures .1)
 
-enum-told : tie.Need-enum-told Inv-loop μ-loop
-enum-told c = search needs
-
 loop-again : tie.Need-loop-again Inv-loop μ-loop
 loop-again c =
     let read = c .before .before in
@@ -69,5 +66,5 @@ returns c =
 pub anchor-rows-spec : {M : Type 1} → statement M
 anchor-rows-spec =
     tie.close
-    (tie.spec Inv-loop μ-loop (search needs) loop-holds (search needs) (search needs) (search needs) enum-told (search needs) loop-again
+    (tie.spec Inv-loop μ-loop (search needs) loop-holds (search needs) (search needs) (search needs) (search needs) (search needs) loop-again
     hit-rows-requires (search needs) loop-again-2 (search needs) (search needs) returns)

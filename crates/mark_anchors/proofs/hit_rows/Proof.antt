@@ -50,9 +50,6 @@ few c =
 loop-holds : tie.Need-loop-holds Inv-loop μ-loop
 loop-holds c = pushed-first _ _ _ (c .before .before .before .before .args .hits) _ _ _
 
-enum-told : tie.Need-enum-told Inv-loop μ-loop
-enum-told c = search needs
-
 returns : tie.Need-returns Inv-loop μ-loop
 returns c =
     let ended = c .before .before in
@@ -141,6 +138,6 @@ returns-3 c =
 pub hit-rows-spec : {M : Type 1} → statement M
 hit-rows-spec =
     tie.close
-    (tie.spec Inv-loop μ-loop loop-holds (search needs) (search needs) enum-told (search needs) (search needs) returns (search needs)
+    (tie.spec Inv-loop μ-loop loop-holds (search needs) (search needs) (search needs) (search needs) (search needs) returns (search needs)
     (search needs) (search needs) returns-2 (search needs) (search needs) (search needs) loop-less loop-again (search needs) sub-hit-row
     hit-row-requires add-order loop-less-2 loop-again-2 (search needs) (search needs) returns-3)

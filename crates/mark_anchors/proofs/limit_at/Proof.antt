@@ -8,9 +8,6 @@ use Rattle.mark_anchors.proofs.limit_at.Tie as tie
 returns : tie.Need-returns
 returns c = λ l t. limit-no-big l _ _ _ t _ (c .if1 .taken)
 
-enum-told : tie.Need-enum-told
-enum-told c = search needs
-
 returns-2 : tie.Need-returns-2
 returns-2 c =
     let read = c .before .before in
@@ -22,4 +19,4 @@ returns-3 c =
     λ l t. limit-there l _ _ _ t _ (read .before .if1 .left) _ _ (sym (read .point-at .ensures) ∙ c .before .bar .given .1)
 
 pub limit-at-spec : {M : Type 1} → statement M
-limit-at-spec = tie.close (tie.spec returns (search needs) (search needs) enum-told returns-2 (search needs) returns-3)
+limit-at-spec = tie.close (tie.spec returns (search needs) (search needs) (search needs) returns-2 (search needs) returns-3)

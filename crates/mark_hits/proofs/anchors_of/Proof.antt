@@ -26,9 +26,6 @@ read-of c = c .before .before .before .before .before
 loop-holds : tie.Need-loop-holds Inv-loop μ-loop
 loop-holds c = (omega arith, omega arith, c .pre .1, c .pre .0, omega arith, c .pre .2, found-none (c .args .side) _ _ _ _)
 
-enum-told : tie.Need-enum-told Inv-loop μ-loop
-enum-told c = search needs
-
 loop-again : tie.Need-loop-again Inv-loop μ-loop
 loop-again c =
     let read = c .before .before in
@@ -71,5 +68,5 @@ returns c =
 pub anchors-of-spec : {M : Type 1} → statement M
 anchors-of-spec =
     tie.close
-    (tie.spec Inv-loop μ-loop loop-holds (search needs) (search needs) (search needs) enum-told (search needs) loop-again (search needs)
+    (tie.spec Inv-loop μ-loop loop-holds (search needs) (search needs) (search needs) (search needs) (search needs) loop-again (search needs)
     (search needs) (search needs) (search needs) (search needs) loop-again-2 returns)

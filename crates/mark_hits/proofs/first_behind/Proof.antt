@@ -21,9 +21,6 @@ returns c = (omega arith, λ l t h. none-first l _)
 loop-holds : tie.Need-loop-holds Inv-loop μ-loop
 loop-holds c = (c .before .pre .0, c .before .pre .1, λ l t h. none-later l (c .before .args .last) (c .before .args .place) _ (c .if1 .left) h)
 
-enum-told : tie.Need-enum-told Inv-loop μ-loop
-enum-told c = search needs
-
 loop-again : tie.Need-loop-again Inv-loop μ-loop
 loop-again c =
     let read = c .before .before in
@@ -59,5 +56,5 @@ returns-3 c = (c .before .loop .inv .1, c .before .loop .inv .2)
 pub first-behind-spec : {M : Type 1} → statement M
 first-behind-spec =
     tie.close
-    (tie.spec Inv-loop μ-loop returns loop-holds (search needs) (search needs) (search needs) enum-told (search needs) loop-again (search needs)
+    (tie.spec Inv-loop μ-loop returns loop-holds (search needs) (search needs) (search needs) (search needs) (search needs) loop-again (search needs)
     returns-2 (search needs) loop-again-2 returns-3)

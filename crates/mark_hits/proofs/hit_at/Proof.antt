@@ -4,9 +4,6 @@ use Rattle.mark_hits.proofs.Hits.{no-quote, quote-hit, quote-missed}
 use Rattle.mark_hits.proofs.hit_at.Statement.{statement}
 use Rattle.mark_hits.proofs.hit_at.Tie as tie
 
-enum-told : tie.Need-enum-told
-enum-told c = search needs
-
 returns : tie.Need-returns
 returns c = no-quote _ _ _ _ _ (c .before .before .quote-at .ensures) (c .enum-told .given .1)
 
@@ -21,4 +18,4 @@ returns-3 c =
     quote-missed _ _ _ _ _ (told .before .before .quote-at .ensures) _ (told .quote .given .1) _ (c .before .beyond .ensures) (c .if1 .left)
 
 pub hit-at-spec : {M : Type 1} → statement M
-hit-at-spec = tie.close (tie.spec (search needs) (search needs) enum-told returns (search needs) returns-2 returns-3)
+hit-at-spec = tie.close (tie.spec (search needs) (search needs) (search needs) returns (search needs) returns-2 returns-3)

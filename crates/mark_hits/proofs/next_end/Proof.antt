@@ -44,9 +44,6 @@ loop-again c =
           (sym (way .is-way .ensures) ∙ not-true _ (c .if1 .taken)),
     )
 
-enum-told : tie.Need-enum-told Inv-loop μ-loop
-enum-told c = search needs
-
 loop-again-2 : tie.Need-loop-again-2 Inv-loop μ-loop
 loop-again-2 c =
     let read = c .before .before in
@@ -94,4 +91,4 @@ pub next-end-spec : {M : Type 1} → statement M
 next-end-spec =
     tie.close
     (tie.spec Inv-loop μ-loop loop-holds (search needs) (search needs) (search needs) (search needs) loop-again (search needs) (search needs)
-    enum-told (search needs) loop-again-2 (search needs) returns (search needs) loop-again-3 returns-2)
+    (search needs) (search needs) loop-again-2 (search needs) returns (search needs) loop-again-3 returns-2)

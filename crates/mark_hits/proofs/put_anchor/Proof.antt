@@ -6,9 +6,6 @@ use Rattle.mark_hits.proofs.Anchors.{endPrice, puts-anchor}
 use Rattle.mark_hits.proofs.put_anchor.Statement.{statement}
 use Rattle.mark_hits.proofs.put_anchor.Tie as tie
 
-enum-told : tie.Need-enum-told
-enum-told c = search needs
-
 returns : tie.Need-returns
 returns c =
     let start = c .before .before in (
@@ -26,5 +23,5 @@ returns-2 c =
 pub put-anchor-spec : {M : Type 1} → statement M
 put-anchor-spec =
     tie.close
-    (tie.spec (search needs) (search needs) enum-told (search needs) (search needs) (search needs) (search needs) returns (search needs)
+    (tie.spec (search needs) (search needs) (search needs) (search needs) (search needs) (search needs) (search needs) returns (search needs)
     (search needs) (search needs) (search needs) returns-2)

@@ -29,9 +29,6 @@ within c = (omega (arith, c .before .loop .inv .2, c .loop-test .taken), omega (
 loop-holds : tie.Need-loop-holds Inv-loop μ-loop
 loop-holds c = (omega (arith, c .at-most .ensures), c .before .pre .0, omega (arith, c .at-most .ensures), λ l t. refl)
 
-enum-told : tie.Need-enum-told Inv-loop μ-loop
-enum-told c = search needs
-
 loop-again : tie.Need-loop-again Inv-loop μ-loop
 loop-again c =
     let read = c .before .before in
@@ -75,5 +72,5 @@ returns-2 c =
 pub start-of-spec : {M : Type 1} → statement M
 start-of-spec =
     tie.close
-    (tie.spec Inv-loop μ-loop (search needs) (search needs) loop-holds (search needs) (search needs) (search needs) enum-told (search needs)
+    (tie.spec Inv-loop μ-loop (search needs) (search needs) loop-holds (search needs) (search needs) (search needs) (search needs) (search needs)
     loop-again returns (search needs) loop-again-2 (search needs) returns-2)

@@ -31,9 +31,6 @@ loop-holds c =
     let start = c .before .before in
     put-first _ _ _ _ _ _ (start .pre .0 .1) (start .pre .0 .2)
 
-enum-told : tie.Need-enum-told Inv-loop μ-loop
-enum-told c = search needs
-
 returns : tie.Need-returns Inv-loop μ-loop
 returns c =
     let found = c .before .before in
@@ -82,5 +79,5 @@ returns-2 c =
 pub zone-bars-spec : {M : Type 1} → statement M
 zone-bars-spec =
     tie.close
-    (tie.spec Inv-loop μ-loop (search needs) loop-holds (search needs) (search needs) enum-told (search needs) returns cast-insert-bar
+    (tie.spec Inv-loop μ-loop (search needs) loop-holds (search needs) (search needs) (search needs) (search needs) returns cast-insert-bar
     insert-bar-requires loop-less loop-again (search needs) returns-2)

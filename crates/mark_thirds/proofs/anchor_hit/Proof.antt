@@ -37,9 +37,6 @@ beat head =
 loop-holds : tie.Need-loop-holds Inv-loop μ-loop
 loop-holds c = λ l t. refl
 
-enum-told : tie.Need-enum-told Inv-loop μ-loop
-enum-told c = search needs
-
 returns : tie.Need-returns Inv-loop μ-loop
 returns c =
     let found = c .before .before in
@@ -87,5 +84,5 @@ returns-3 c =
 pub anchor-hit-spec : {M : Type 1} → statement M
 anchor-hit-spec =
     tie.close
-    (tie.spec Inv-loop μ-loop loop-holds (search needs) (search needs) enum-told returns (search needs) (search needs) (search needs) returns-2
+    (tie.spec Inv-loop μ-loop loop-holds (search needs) (search needs) (search needs) returns (search needs) (search needs) (search needs) returns-2
     loop-less loop-again returns-3)

@@ -44,9 +44,6 @@ loop-holds c =
     let begun = c .before .before .before .before .before .before in
     (omega arith, omega arith, omega arith, refl, begun .pre .1 .2 .1, λ l f t w. w)
 
-enum-told : tie.Need-enum-told Inv-loop μ-loop
-enum-told c = search needs
-
 loop-again : tie.Need-loop-again Inv-loop μ-loop
 loop-again c =
     let at = c .before .before in
@@ -122,5 +119,5 @@ returns c =
 pub anchor-marks-spec : {M : Type 1} → statement M
 anchor-marks-spec =
     tie.close
-    (tie.spec Inv-loop μ-loop (search needs) loop-holds (search needs) (search needs) (search needs) enum-told (search needs) loop-again
+    (tie.spec Inv-loop μ-loop (search needs) loop-holds (search needs) (search needs) (search needs) (search needs) (search needs) loop-again
     (search needs) put-hit-requires (search needs) loop-again-2 (search needs) returns)

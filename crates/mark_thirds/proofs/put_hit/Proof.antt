@@ -15,9 +15,6 @@ told c = c .before .before .before .before
 abbrev start : tie.After-hit → tie.Start
 start c = c .before .before .before
 
-enum-told : tie.Need-enum-told
-enum-told c = search needs
-
 returns : tie.Need-returns
 returns c =
     let begun = c .before .before .before in (
@@ -51,5 +48,5 @@ returns-3 c =
 pub put-hit-spec : {M : Type 1} → statement M
 put-hit-spec =
     tie.close
-    (tie.spec (search needs) enum-told returns cast-key-of (search needs) (search needs) (search needs) returns-2 (search needs) (search needs)
+    (tie.spec (search needs) (search needs) returns cast-key-of (search needs) (search needs) (search needs) returns-2 (search needs) (search needs)
     (search needs) (search needs) (search needs) (search needs) returns-3)

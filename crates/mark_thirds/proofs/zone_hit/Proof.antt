@@ -27,9 +27,6 @@ abbrev μ-loop : tie.MeasureT-loop
 loop-holds : tie.Need-loop-holds Inv-loop μ-loop
 loop-holds c = λ l stop t lim. refl
 
-enum-told : tie.Need-enum-told Inv-loop μ-loop
-enum-told c = search needs
-
 returns : tie.Need-returns Inv-loop μ-loop
 returns c =
     let found = c .before .before in
@@ -80,5 +77,5 @@ returns-3 c =
 pub zone-hit-spec : {M : Type 1} → statement M
 zone-hit-spec =
     tie.close
-    (tie.spec Inv-loop μ-loop (search needs) loop-holds (search needs) (search needs) enum-told returns (search needs) (search needs) returns-2
+    (tie.spec Inv-loop μ-loop (search needs) loop-holds (search needs) (search needs) (search needs) returns (search needs) (search needs) returns-2
     loop-less loop-again returns-3)
