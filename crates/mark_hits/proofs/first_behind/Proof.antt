@@ -19,7 +19,9 @@ returns : tie.Need-returns Inv-loop μ-loop
 returns c = (omega arith, λ l t h. none-first l _)
 
 loop-holds : tie.Need-loop-holds Inv-loop μ-loop
-loop-holds c = (c .before .pre .0, c .before .pre .1, λ l t h. none-later l (c .before .args .last) (c .before .args .place) _ (c .if1 .left) h)
+loop-holds c =
+    let args = c .before .args in
+    (c .before .pre .0, c .before .pre .1, λ l t h. none-later l (args .last) (args .place) (args .after) (omega (arith, c .if1 .left)) h)
 
 loop-again : tie.Need-loop-again Inv-loop μ-loop
 loop-again c =
