@@ -19,4 +19,4 @@ returns-2 c =
     c .bad-triple .ensures ∙ behind-one (λ (o : Option Triple). badTriple o (at1 .before .args .t)) _ _ (at1 .if1 .left)
 
 pub bad-from-spec : {M : Type 1} → statement M
-bad-from-spec = tie.close (tie.spec returns (search needs) returns-2)
+bad-from-spec = tie.close (tie.spec returns (λ c κs. search needs) returns-2)

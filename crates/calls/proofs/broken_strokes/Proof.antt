@@ -84,5 +84,6 @@ returns-5 c =
 pub broken-strokes-spec : {M : Type 1} → statement M
 broken-strokes-spec =
     tie.close
-    (tie.spec Inv-loop μ-loop returns (search needs) (search needs) returns-2 loop-holds (search needs) (search needs) (search needs)
-    (search needs) returns-3 (search needs) returns-4 (search needs) (search needs) loop-again returns-5)
+    (tie.spec Inv-loop μ-loop returns (λ c. search needs) (λ c κs. search needs) returns-2 loop-holds (λ c. search needs) (λ c. search needs)
+    (λ c. search needs) (λ c κs. search needs) returns-3 (λ c κs. search needs) returns-4 (λ c. search needs) (λ c. search needs) loop-again
+    returns-5)

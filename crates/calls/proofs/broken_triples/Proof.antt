@@ -89,5 +89,5 @@ returns-6 c =
 pub broken-triples-spec : {M : Type 1} → statement M
 broken-triples-spec =
     tie.close
-    (tie.spec Inv-loop μ-loop returns (search needs) returns-2 returns-3 loop-holds (search needs) (search needs) (search needs) (search needs)
-    returns-4 returns-5 (search needs) (search needs) loop-again returns-6)
+    (tie.spec Inv-loop μ-loop returns (λ c. search needs) returns-2 returns-3 loop-holds (λ c. search needs) (λ c. search needs) (λ c. search needs)
+    (λ c κs. search needs) returns-4 returns-5 (λ c. search needs) (λ c. search needs) loop-again returns-6)

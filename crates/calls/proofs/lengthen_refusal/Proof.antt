@@ -37,4 +37,6 @@ returns-4 c =
     (refuse-later _ 5 0 0 (lt-leb _ _ (c .if3 .left)) refl))
 
 pub lengthen-refusal-spec : {M : Type 1} → statement M
-lengthen-refusal-spec = tie.close (tie.spec returns (search needs) (search needs) (search needs) (search needs) returns-2 returns-3 returns-4)
+lengthen-refusal-spec =
+    tie.close
+    (tie.spec returns (λ c. search needs) (λ c. search needs) (λ c. search needs) (λ c. search needs) returns-2 returns-3 returns-4)

@@ -35,4 +35,5 @@ returns c =
 pub stroke-refusal-spec : {M : Type 1} → statement M
 stroke-refusal-spec =
     tie.close
-    (tie.spec (search needs) (search needs) element-copy-out-p (search needs) (search needs) (search needs) (search needs) returns)
+    (tie.spec (λ c κs. search needs) (λ c. search needs) element-copy-out-p (λ c κs. search needs) (λ c κs. search needs) (λ c κs. search needs)
+    (λ c κs. search needs) returns)

@@ -19,4 +19,6 @@ returns c =
     ∙ triple-number _ _ _ _ _ _ (long (placed .before)) (placed .last-place .ensures) (ordered .bad-from .ensures)
 
 pub triple-refusal-spec : {M : Type 1} → statement M
-triple-refusal-spec = tie.close (tie.spec (search needs) (search needs) (search needs) (search needs) (search needs) returns)
+triple-refusal-spec =
+    tie.close
+    (tie.spec (λ c κs. search needs) (λ c. search needs) (λ c. search needs) (λ c κs. search needs) (λ c κs. search needs) returns)

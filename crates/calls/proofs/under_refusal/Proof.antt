@@ -38,4 +38,5 @@ returns-4 c =
 pub under-refusal-spec : {M : Type 1} → statement M
 under-refusal-spec =
     tie.close
-    (tie.spec returns returns-2 (search needs) (search needs) (search needs) (search needs) (search needs) returns-3 returns-4)
+    (tie.spec returns returns-2 (λ c. search needs) (λ c. search needs) (λ c. search needs) (λ c. search needs) (λ c. search needs) returns-3
+    returns-4)

@@ -17,4 +17,4 @@ returns-2 c =
     c .unjoined .ensures ∙ behind-one (λ (o : Option Stroke). unjoined o (at1 .before .args .s)) _ _ (at1 .if1 .left)
 
 pub unjoined-from-spec : {M : Type 1} → statement M
-unjoined-from-spec = tie.close (tie.spec returns (search needs) returns-2)
+unjoined-from-spec = tie.close (tie.spec returns (λ c κs. search needs) returns-2)

@@ -16,4 +16,4 @@ returns-2 c =
     bar-given _ _ _ (test .before .before .price-at .ensures) (test .before .price-at2 .ensures) (sym (test .wrong-prices .ensures) ∙ c .if1 .left)
 
 pub checked-bar-spec : {M : Type 1} → statement M
-checked-bar-spec = tie.close (tie.spec (search needs) (search needs) (search needs) returns returns-2)
+checked-bar-spec = tie.close (tie.spec (λ c κs. search needs) (λ c κs. search needs) (λ c κs. search needs) returns returns-2)

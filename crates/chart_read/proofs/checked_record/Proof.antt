@@ -37,5 +37,5 @@ returns-3 c = rw (c .before .enum-told2 .given .1) (c .checked-bar .ensures)
 pub checked-record-spec : {M : Type 1} → statement M
 checked-record-spec =
     tie.close
-    (tie.spec enum-told checked-stroke-requires (search needs) checked-triple-requires (search needs) checked-bar-requires returns returns-2
-    returns-3)
+    (tie.spec enum-told checked-stroke-requires (λ c. search needs) checked-triple-requires (λ c. search needs) checked-bar-requires returns
+    returns-2 returns-3)

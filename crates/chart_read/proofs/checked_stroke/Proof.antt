@@ -25,4 +25,4 @@ returns-3 c =
     (sym (test .wrong-prices .ensures) ∙ c .if2 .left)
 
 pub checked-stroke-spec : {M : Type 1} → statement M
-checked-stroke-spec = tie.close (tie.spec (search needs) returns (search needs) returns-2 returns-3)
+checked-stroke-spec = tie.close (tie.spec (λ c κs. search needs) returns (λ c κs. search needs) returns-2 returns-3)

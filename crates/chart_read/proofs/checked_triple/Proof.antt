@@ -12,4 +12,4 @@ returns-2 : tie.Need-returns-2
 returns-2 c = triple-given _ _ (c .before .before .triple-in .ensures) (c .before .before .before .before .args .l) (le-ltb _ _ (c .if1 .left))
 
 pub checked-triple-spec : {M : Type 1} → statement M
-checked-triple-spec = tie.close (tie.spec (search needs) returns returns-2)
+checked-triple-spec = tie.close (tie.spec (λ c κs. search needs) returns returns-2)

@@ -87,7 +87,7 @@ returns-2 c = filled _ _ _ _ _ _ _ (c .before .loop .inv) (c .loop-test .left)
 pub fill-bars-spec : {M : Type 1} → statement M
 fill-bars-spec =
     tie.close
-    (tie.spec Inv-loop μ-loop loop-holds (search needs) (search needs) (search needs) (search needs) enum-told (search needs) (search needs)
-    returns (search needs) (search needs) (search needs) loop-again (search needs) (search needs) (search needs) loop-again-2 (search needs)
-    mul-highs slice-write-highs mul-lows slice-write-lows add-bars (search needs) (search needs) loop-again-3 (search needs) (search needs)
-    returns-2)
+    (tie.spec Inv-loop μ-loop loop-holds (λ c. search needs) (λ c. search needs) (λ c. search needs) (λ c κs. search needs) enum-told
+    (λ c. search needs) (λ c. search needs) returns (λ c. search needs) (λ c. search needs) (λ c. search needs) loop-again (λ c. search needs)
+    (λ c. search needs) (λ c. search needs) loop-again-2 (λ c. search needs) mul-highs slice-write-highs mul-lows slice-write-lows add-bars
+    (λ c. search needs) (λ c. search needs) loop-again-3 (λ c. search needs) (λ c. search needs) returns-2)

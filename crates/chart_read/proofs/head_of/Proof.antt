@@ -57,5 +57,6 @@ returns-5 c =
 pub head-of-spec : {M : Type 1} → statement M
 head-of-spec =
     tie.close
-    (tie.spec returns (search needs) (search needs) (search needs) (search needs) enum-told returns-2 (search needs) (search needs)
-    (search needs) returns-3 returns-4 (search needs) (search needs) (search needs) checked-record-requires returns-5)
+    (tie.spec returns (λ c. search needs) (λ c. search needs) (λ c κs. search needs) (λ c. search needs) enum-told returns-2 (λ c. search needs)
+    (λ c κs. search needs) (λ c κs. search needs) returns-3 returns-4 (λ c. search needs) (λ c. search needs) (λ c. search needs)
+    checked-record-requires returns-5)

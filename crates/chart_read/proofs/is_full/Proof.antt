@@ -19,4 +19,4 @@ unfolding fullBy
 returns-3 c = rw (c .before .enum-told2 .given .1)
 
 pub is-full-spec : {M : Type 1} → statement M
-is-full-spec = tie.close (tie.spec enum-told (search needs) (search needs) (search needs) returns returns-2 returns-3)
+is-full-spec = tie.close (tie.spec enum-told (λ c. search needs) (λ c κs. search needs) (λ c. search needs) returns returns-2 returns-3)

@@ -20,4 +20,4 @@ unfolding fullBy
 returns-3 c = rw (c .before .enum-told3 .given .1)
 
 pub level-full-spec : {M : Type 1} → statement M
-level-full-spec = tie.close (tie.spec enum-told (search needs) (search needs) returns returns-2 returns-3)
+level-full-spec = tie.close (tie.spec enum-told (λ c. search needs) (λ c. search needs) returns returns-2 returns-3)

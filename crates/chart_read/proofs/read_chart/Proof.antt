@@ -38,4 +38,6 @@ returns-3 c =
     answer-given (lent s) (s .args .bytes .now) _ _ _ _ _ (called .before .if1 .left) (test .if2 .left) (called .scan .ensures) (fill .fill-bars .ensures)
 
 pub read-chart-spec : {M : Type 1} → statement M
-read-chart-spec = tie.close (tie.spec (search needs) returns (search needs) returns-2 fill-bars-requires (search needs) (search needs) returns-3)
+read-chart-spec =
+    tie.close
+    (tie.spec (λ c κs. search needs) returns (λ c κs. search needs) returns-2 fill-bars-requires (λ c. search needs) (λ c. search needs) returns-3)

@@ -111,9 +111,10 @@ returns-2 c = ends _ _ _ _ _ (c .before .loop .inv) (c .loop-test .left)
 pub scan-spec : {M : Type 1} → statement M
 scan-spec =
     tie.close
-    (tie.spec Inv-loop μ-loop (search needs) loop-holds (search needs) (search needs) (search needs) (search needs) (search needs)
-    (search needs) returns (search needs) (search needs) (search needs) element-set-from-s (search needs) (search needs) (search needs)
-    loop-again (search needs) (search needs) enum-told (search needs) (search needs) element-set-from-t (search needs) (search needs)
-    loop-again-2 (search needs) (search needs) (search needs) element-set-from-t-2 (search needs) (search needs) loop-again-3 (search needs)
-    (search needs) (search needs) element-set-from-t-3 (search needs) (search needs) loop-again-4 (search needs) add-bars (search needs)
-    (search needs) loop-again-5 returns-2)
+    (tie.spec Inv-loop μ-loop (λ c κs. search needs) loop-holds (λ c. search needs) (λ c. search needs) (λ c. search needs) (λ c κs. search needs)
+    (λ c. search needs) (λ c κs. search needs) returns (λ c. search needs) (λ c. search needs) (λ c. search needs) element-set-from-s
+    (λ c. search needs) (λ c. search needs) (λ c. search needs) loop-again (λ c. search needs) (λ c. search needs) enum-told (λ c. search needs)
+    (λ c. search needs) element-set-from-t (λ c. search needs) (λ c. search needs) loop-again-2 (λ c. search needs) (λ c. search needs)
+    (λ c. search needs) element-set-from-t-2 (λ c. search needs) (λ c. search needs) loop-again-3 (λ c. search needs) (λ c. search needs)
+    (λ c. search needs) element-set-from-t-3 (λ c. search needs) (λ c. search needs) loop-again-4 (λ c. search needs) add-bars (λ c. search needs)
+    (λ c. search needs) loop-again-5 returns-2)

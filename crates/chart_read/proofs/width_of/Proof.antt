@@ -20,4 +20,4 @@ unfolding width
 returns-3 c = rw (c .enum-told3 .given .1)
 
 pub width-of-spec : {M : Type 1} → statement M
-width-of-spec = tie.close (tie.spec enum-told (search needs) (search needs) returns returns-2 returns-3)
+width-of-spec = tie.close (tie.spec enum-told (λ c. search needs) (λ c. search needs) returns returns-2 returns-3)

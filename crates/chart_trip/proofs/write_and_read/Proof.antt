@@ -52,5 +52,5 @@ returns-2 c =
 pub write-and-read-spec : {M : Type 1} → statement M
 write-and-read-spec =
     tie.close
-    (tie.spec (search needs) (search needs) returns slice-reshare-prefix-read-chart slice-aggregate-read-chart (search needs) (search needs)
-    (search needs) (search needs) returns-2)
+    (tie.spec (λ c κs. search needs) (λ c. search needs) returns slice-reshare-prefix-read-chart slice-aggregate-read-chart (λ c κs. search needs)
+    (λ c. search needs) (λ c. search needs) (λ c. search needs) returns-2)

@@ -13,4 +13,4 @@ unfolding badQuotes
 returns-2 c = rw (← c .before .all-prices .ensures, c .if1 .left)
 
 pub bad-quotes-spec : {M : Type 1} → statement M
-bad-quotes-spec = tie.close (tie.spec (search needs) (search needs) returns returns-2)
+bad-quotes-spec = tie.close (tie.spec (λ c κs. search needs) (λ c κs. search needs) returns returns-2)

@@ -8,4 +8,4 @@ returns : tie.Need-returns
 returns c = copied _ _ _ _ (c .before .before .before .before .before .bar-bytes .ensures) (c .before .before .copy .ensures .1)
 
 pub put-bar-spec : {M : Type 1} → statement M
-put-bar-spec = tie.close (tie.spec (λ c κs. search needs) (search needs) (search needs) (search needs) returns)
+put-bar-spec = tie.close (tie.spec (λ c κs. search needs) (λ c. search needs) (λ c κs. search needs) (λ c. search needs) returns)

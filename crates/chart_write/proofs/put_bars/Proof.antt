@@ -51,5 +51,6 @@ returns c =
 pub put-bars-spec : {M : Type 1} → statement M
 put-bars-spec =
     tie.close
-    (tie.spec Inv-loop μ-loop loop-holds (search needs) (search needs) (search needs) (search needs) (search needs) (search needs)
-    (search needs) put-bar-requires (search needs) (search needs) (search needs) loop-again same-length returns)
+    (tie.spec Inv-loop μ-loop loop-holds (λ c. search needs) (λ c. search needs) (λ c. search needs) (λ c. search needs) (λ c. search needs)
+    (λ c. search needs) (λ c. search needs) put-bar-requires (λ c. search needs) (λ c. search needs) (λ c. search needs) loop-again same-length
+    returns)

@@ -69,4 +69,6 @@ returns c =
     levels-put _ (stage-next (bigs-put done) _ (room-4 _ _ _ (entry-3 done .pre .1)) (last .put-triples3 .ensures))
 
 pub put-levels-spec : {M : Type 1} → statement M
-put-levels-spec = tie.close (tie.spec put-strokes-requires put-triples-requires put-triples-requires-2 put-triples-requires-3 (search needs) returns)
+put-levels-spec =
+    tie.close
+    (tie.spec put-strokes-requires put-triples-requires put-triples-requires-2 put-triples-requires-3 (λ c. search needs) returns)

@@ -8,4 +8,4 @@ returns : tie.Need-returns
 returns c = copied _ _ _ _ (c .before .before .before .before .before .stroke-bytes .ensures) (c .before .before .copy .ensures .1)
 
 pub put-stroke-spec : {M : Type 1} → statement M
-put-stroke-spec = tie.close (tie.spec (λ c κs. search needs) (search needs) (search needs) (search needs) returns)
+put-stroke-spec = tie.close (tie.spec (λ c κs. search needs) (λ c. search needs) (λ c κs. search needs) (λ c. search needs) returns)

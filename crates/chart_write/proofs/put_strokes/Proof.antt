@@ -52,5 +52,5 @@ returns c =
 pub put-strokes-spec : {M : Type 1} → statement M
 put-strokes-spec =
     tie.close
-    (tie.spec Inv-loop μ-loop loop-holds (search needs) (search needs) (search needs) (search needs) (search needs) (search needs)
-    put-stroke-requires (search needs) (search needs) (search needs) loop-again same-length returns)
+    (tie.spec Inv-loop μ-loop loop-holds (λ c. search needs) (λ c. search needs) (λ c. search needs) (λ c. search needs) (λ c. search needs)
+    (λ c. search needs) put-stroke-requires (λ c. search needs) (λ c. search needs) (λ c. search needs) loop-again same-length returns)

@@ -8,4 +8,4 @@ returns : tie.Need-returns
 returns c = copied _ _ _ _ (c .before .before .before .before .before .triple-bytes .ensures) (c .before .before .copy .ensures .1)
 
 pub put-triple-spec : {M : Type 1} → statement M
-put-triple-spec = tie.close (tie.spec (search needs) (search needs) (search needs) (search needs) returns)
+put-triple-spec = tie.close (tie.spec (λ c κs. search needs) (λ c. search needs) (λ c κs. search needs) (λ c. search needs) returns)

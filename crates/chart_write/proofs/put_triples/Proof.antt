@@ -48,5 +48,5 @@ returns c =
 pub put-triples-spec : {M : Type 1} → statement M
 put-triples-spec =
     tie.close
-    (tie.spec Inv-loop μ-loop loop-holds (search needs) (search needs) (search needs) (search needs) (search needs) (search needs)
-    put-triple-requires (search needs) (search needs) (search needs) loop-again same-length returns)
+    (tie.spec Inv-loop μ-loop loop-holds (λ c. search needs) (λ c. search needs) (λ c. search needs) (λ c. search needs) (λ c. search needs)
+    (λ c. search needs) put-triple-requires (λ c. search needs) (λ c. search needs) (λ c. search needs) loop-again same-length returns)

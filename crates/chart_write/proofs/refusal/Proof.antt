@@ -18,4 +18,6 @@ returns c =
     (wrong .bad-quotes .ensures) (size .levels-size .ensures) (short .too-short .ensures)
 
 pub refusal-spec : {M : Type 1} → statement M
-refusal-spec = tie.close (tie.spec (search needs) (search needs) (search needs) (search needs) (search needs) returns)
+refusal-spec =
+    tie.close
+    (tie.spec (λ c κs. search needs) (λ c κs. search needs) (λ c κs. search needs) (λ c κs. search needs) (λ c κs. search needs) returns)

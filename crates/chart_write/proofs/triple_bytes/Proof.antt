@@ -12,4 +12,4 @@ returns c =
     (c .before .low-byte2 .ensures) (c .high-byte2 .ensures)
 
 pub triple-bytes-spec : {M : Type 1} → statement M
-triple-bytes-spec = tie.close (tie.spec (search needs) (search needs) (search needs) (search needs) returns)
+triple-bytes-spec = tie.close (tie.spec (λ c κs. search needs) (λ c κs. search needs) (λ c κs. search needs) (λ c κs. search needs) returns)

@@ -53,4 +53,6 @@ returns-2 c =
     (r .0, (r .1, λ h. absurd (h refl)))
 
 pub write-chart-spec : {M : Type 1} → statement M
-write-chart-spec = tie.close (tie.spec (search needs) (search needs) returns put-bars-requires put-levels-requires (search needs) returns-2)
+write-chart-spec =
+    tie.close
+    (tie.spec (λ c κs. search needs) (λ c. search needs) returns put-bars-requires put-levels-requires (λ c. search needs) returns-2)

@@ -12,4 +12,4 @@ unfolding price number
 returns c = rw (part _ _) at (c .value-of .ensures ∙ ap (ofBits binary64) (c .before .number-of .ensures))
 
 pub price-at-spec : {M : Type 1} → statement M
-price-at-spec = tie.close (tie.spec (search needs) (search needs) (search needs) (search needs) (search needs) returns)
+price-at-spec = tie.close (tie.spec (λ c. search needs) (λ c. search needs) (λ c. search needs) (λ c κs. search needs) (λ c κs. search needs) returns)

@@ -7,4 +7,4 @@ returns : tie.Need-returns
 returns c = rw (← c .before .bits-of-price .ensures) (c .bytes-of .ensures)
 
 pub price-bytes-spec : {M : Type 1} → statement M
-price-bytes-spec = tie.close (tie.spec (λ c κs. search needs) (search needs) returns)
+price-bytes-spec = tie.close (tie.spec (λ c κs. search needs) (λ c κs. search needs) returns)

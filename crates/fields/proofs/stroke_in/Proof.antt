@@ -11,4 +11,4 @@ returns c =
     stroke-read _ _ (read .triple-in .ensures) _ _ (sym (c .before .price-at .ensures)) (sym (c .price-at2 .ensures))
 
 pub stroke-in-spec : {M : Type 1} → statement M
-stroke-in-spec = tie.close (tie.spec (search needs) (search needs) (search needs) returns)
+stroke-in-spec = tie.close (tie.spec (λ c κs. search needs) (λ c κs. search needs) (λ c κs. search needs) returns)

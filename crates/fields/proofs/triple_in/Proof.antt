@@ -13,4 +13,4 @@ returns c =
     rw (one-at s 0 (omega arith), c .before .two-at .ensures, c .two-at2 .ensures)
 
 pub triple-in-spec : {M : Type 1} → statement M
-triple-in-spec = tie.close (tie.spec (search needs) (search needs) (search needs) returns)
+triple-in-spec = tie.close (tie.spec (λ c. search needs) (λ c κs. search needs) (λ c κs. search needs) returns)

@@ -13,4 +13,4 @@ returns c =
     rw (add-one (start .args .at)) at (c .two-of .ensures) ∙ sym (two-at (start .args .s .now) (start .args .at) (omega arith))
 
 pub two-at-spec : {M : Type 1} → statement M
-two-at-spec = tie.close (tie.spec (search needs) (search needs) (search needs) (search needs) returns)
+two-at-spec = tie.close (tie.spec (λ c. search needs) (λ c. search needs) (λ c. search needs) (λ c κs. search needs) returns)

@@ -15,4 +15,4 @@ float-from-bits-result : tie.Need-float-from-bits-result
 float-from-bits-result c = bits-no-nan (c .before .args .n) (omega arith)
 
 pub value-of-spec : {M : Type 1} → statement M
-value-of-spec = tie.close (tie.spec returns float-from-bits-result (search needs))
+value-of-spec = tie.close (tie.spec returns float-from-bits-result (λ c. search needs))

@@ -48,4 +48,4 @@ returns-3 c =
     (asked .broken-levels .ensures) (c .same-zones .ensures)
 
 pub bad-live-spec : {M : Type 1} → statement M
-bad-live-spec = tie.close (tie.spec returns (search needs) returns-2 broken-levels-requires same-zones-requires returns-3)
+bad-live-spec = tie.close (tie.spec returns (λ c κs. search needs) returns-2 broken-levels-requires same-zones-requires returns-3)

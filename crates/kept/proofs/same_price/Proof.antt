@@ -20,4 +20,4 @@ returns-2 c =
     no-price _ _ (passes _ (start .good .0 .1)) (start .pre) (sym (c .before .is-price .ensures) ∙ c .if1 .left)
 
 pub same-price-spec : {M : Type 1} → statement M
-same-price-spec = tie.close (tie.spec (search needs) bits-of-price-requires (λ c κs. search needs) returns returns-2)
+same-price-spec = tie.close (tie.spec (λ c κs. search needs) bits-of-price-requires (λ c κs. search needs) returns returns-2)

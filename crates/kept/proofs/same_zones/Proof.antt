@@ -68,5 +68,5 @@ returns-3 c =
 pub same-zones-spec : {M : Type 1} → statement M
 same-zones-spec =
     tie.close
-    (tie.spec Inv-loop μ-loop returns loop-holds (search needs) (search needs) (search needs) (search needs) (search needs) (search needs)
-    same-zone-requires returns-2 (search needs) (search needs) loop-again returns-3)
+    (tie.spec Inv-loop μ-loop returns loop-holds (λ c. search needs) (λ c. search needs) (λ c. search needs) (λ c. search needs) (λ c. search needs)
+    (λ c. search needs) same-zone-requires returns-2 (λ c. search needs) (λ c. search needs) loop-again returns-3)

@@ -8,4 +8,7 @@ returns-2 : tie.Need-returns-2
 returns-2 c = bars-found _ _ (c .before .before .before .range .given .1)
 
 pub bar-of-spec : {M : Type 1} → statement M
-bar-of-spec = tie.close (tie.spec (search needs) (search needs) (λ c. search needs) (search needs) (search needs) (search needs) (search needs) returns-2)
+bar-of-spec =
+    tie.close
+    (tie.spec (λ c. search needs) (λ c. search needs) (λ c. search needs) (λ c. search needs) (λ c. search needs) (λ c. search needs)
+    (λ c. search needs) returns-2)

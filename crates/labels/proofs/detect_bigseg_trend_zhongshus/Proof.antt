@@ -31,4 +31,4 @@ returns-2 c =
     c .labels-of .ensures _ _ (tables .bigs) (tables .zones) ∙ labels-by _ _ (made .0) .1 (known .if1 .left)
 
 pub detect-bigseg-trend-zhongshus-spec : {M : Type 1} → statement M
-detect-bigseg-trend-zhongshus-spec = tie.close (tie.spec tables-of-requires (search needs) returns labels-of-requires returns-2)
+detect-bigseg-trend-zhongshus-spec = tie.close (tie.spec tables-of-requires (λ c κs. search needs) returns labels-of-requires returns-2)

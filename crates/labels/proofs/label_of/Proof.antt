@@ -25,4 +25,5 @@ returns-2 c =
 pub label-of-spec : {M : Type 1} → statement M
 label-of-spec =
     tie.close
-    (tie.spec (search needs) (search needs) (search needs) (search needs) (search needs) returns (search needs) (search needs) add-t10 returns-2)
+    (tie.spec (λ c κs. search needs) (λ c κs. search needs) (λ c. search needs) (λ c. search needs) (λ c κs. search needs) returns
+    (λ c. search needs) (λ c κs. search needs) add-t10 returns-2)

@@ -9,4 +9,4 @@ returns : tie.Need-returns
 returns c = (c .push .ensures .text ∙ rw (c .before .if1 .taken), omega (arith, c .push .ensures .long))
 
 pub marked-spec : {M : Type 1} → statement M
-marked-spec = tie.close (tie.spec (search needs) returns (λ c. search needs))
+marked-spec = tie.close (tie.spec (λ c κs. search needs) returns (λ c. search needs))

@@ -29,4 +29,4 @@ returns-5 c =
     name-none _ _ _ _ (same .before .before .before .before .last .given .1) (omega (arith, same .if1 .left)) (above .if2 .left) (c .if3 .left)
 
 pub name-of-spec : {M : Type 1} → statement M
-name-of-spec = tie.close (tie.spec (search needs) (search needs) returns returns-2 returns-3 returns-4 returns-5)
+name-of-spec = tie.close (tie.spec (λ c. search needs) (λ c. search needs) returns returns-2 returns-3 returns-4 returns-5)

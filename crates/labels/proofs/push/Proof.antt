@@ -8,4 +8,4 @@ returns : tie.Need-returns
 returns c = pushed _ _ (search needs) (search needs)
 
 pub push-spec : {M : Type 1} → statement M
-push-spec = tie.close (tie.spec (search needs) (search needs) (search needs) returns)
+push-spec = tie.close (tie.spec (λ c. search needs) (λ c. search needs) (λ c. search needs) returns)

@@ -8,4 +8,4 @@ returns : tie.Need-returns
 returns c = extended _ _ _ _ (c .before .before .push .ensures) (c .before .push2 .ensures) (c .push3 .ensures)
 
 pub with-extension-spec : {M : Type 1} → statement M
-with-extension-spec = tie.close (tie.spec (search needs) (search needs) (search needs) returns)
+with-extension-spec = tie.close (tie.spec (λ c κs. search needs) (λ c κs. search needs) (λ c κs. search needs) returns)

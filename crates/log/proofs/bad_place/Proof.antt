@@ -56,4 +56,4 @@ returns-2 : tie.Need-returns-2 Inv-loop μ-loop
 returns-2 c = bad-nowhere _ _ _ (c .loop-test .left) ∙ c .before .loop .inv .2
 
 pub bad-place-spec : {M : Type 1} → statement M
-bad-place-spec = tie.close (tie.spec Inv-loop μ-loop loop-holds (search needs) enum-told returns loop-less loop-again returns-2)
+bad-place-spec = tie.close (tie.spec Inv-loop μ-loop loop-holds (λ c κs. search needs) enum-told returns loop-less loop-again returns-2)

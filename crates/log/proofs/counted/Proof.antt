@@ -17,4 +17,4 @@ returns-2 c =
     with-call _ (c .before .args .entry) (λ high low e. miss (0 ∷ 2 ∷ []) 1 tt (rw e at (c .match .keys2)))
 
 pub counted-spec : {M : Type 1} → statement M
-counted-spec = tie.close (tie.spec enum-told (search needs) returns returns-2)
+counted-spec = tie.close (tie.spec enum-told (λ c. search needs) returns returns-2)

@@ -45,5 +45,6 @@ returns-4 c =
 pub next-entry-spec : {M : Type 1} → statement M
 next-entry-spec =
     tie.close
-    (tie.spec (search needs) (search needs) (search needs) (search needs) (search needs) returns (search needs) (search needs) returns-2
-    (search needs) (search needs) (search needs) (search needs) (search needs) (search needs) returns-3 returns-4)
+    (tie.spec (λ c. search needs) (λ c κs. search needs) (λ c. search needs) (λ c. search needs) (λ c κs. search needs) returns (λ c. search needs)
+    (λ c κs. search needs) returns-2 (λ c. search needs) (λ c. search needs) (λ c. search needs) (λ c κs. search needs) (λ c κs. search needs)
+    (λ c κs. search needs) returns-3 returns-4)

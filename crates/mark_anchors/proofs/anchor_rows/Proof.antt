@@ -66,5 +66,5 @@ returns c =
 pub anchor-rows-spec : {M : Type 1} → statement M
 anchor-rows-spec =
     tie.close
-    (tie.spec Inv-loop μ-loop (search needs) loop-holds (search needs) (search needs) (search needs) (search needs) (search needs) loop-again
-    hit-rows-requires (search needs) loop-again-2 (search needs) (search needs) returns)
+    (tie.spec Inv-loop μ-loop (λ c κs. search needs) loop-holds (λ c κs. search needs) (λ c. search needs) (λ c. search needs) (λ c. search needs)
+    (λ c. search needs) loop-again hit-rows-requires (λ c. search needs) loop-again-2 (λ c. search needs) (λ c. search needs) returns)

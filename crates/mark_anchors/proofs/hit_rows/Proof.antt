@@ -138,6 +138,7 @@ returns-3 c =
 pub hit-rows-spec : {M : Type 1} → statement M
 hit-rows-spec =
     tie.close
-    (tie.spec Inv-loop μ-loop loop-holds (search needs) (search needs) (search needs) (search needs) (search needs) returns (search needs)
-    (search needs) (search needs) returns-2 (search needs) (search needs) (search needs) loop-less loop-again (search needs) sub-hit-row
-    hit-row-requires add-order loop-less-2 loop-again-2 (search needs) (search needs) returns-3)
+    (tie.spec Inv-loop μ-loop loop-holds (λ c κs. search needs) (λ c. search needs) (λ c. search needs) (λ c. search needs) (λ c. search needs)
+    returns (λ c κs. search needs) (λ c. search needs) (λ c. search needs) returns-2 (λ c. search needs) (λ c κs. search needs)
+    (λ c κs. search needs) loop-less loop-again (λ c κs. search needs) sub-hit-row hit-row-requires add-order loop-less-2 loop-again-2
+    (λ c. search needs) (λ c. search needs) returns-3)

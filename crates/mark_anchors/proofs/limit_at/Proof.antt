@@ -19,4 +19,4 @@ returns-3 c =
     λ l t. limit-there l _ _ _ t _ (read .before .if1 .left) _ _ (sym (read .point-at .ensures) ∙ c .before .bar .given .1)
 
 pub limit-at-spec : {M : Type 1} → statement M
-limit-at-spec = tie.close (tie.spec returns (search needs) (search needs) (search needs) returns-2 (search needs) returns-3)
+limit-at-spec = tie.close (tie.spec returns (λ c κs. search needs) (λ c. search needs) (λ c. search needs) returns-2 (λ c. search needs) returns-3)

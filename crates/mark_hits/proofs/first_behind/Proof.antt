@@ -58,5 +58,5 @@ returns-3 c = (c .before .loop .inv .1, c .before .loop .inv .2)
 pub first-behind-spec : {M : Type 1} → statement M
 first-behind-spec =
     tie.close
-    (tie.spec Inv-loop μ-loop returns loop-holds (search needs) (search needs) (search needs) (search needs) (search needs) loop-again (search needs)
-    returns-2 (search needs) loop-again-2 returns-3)
+    (tie.spec Inv-loop μ-loop returns loop-holds (λ c. search needs) (λ c κs. search needs) (λ c. search needs) (λ c. search needs)
+    (λ c. search needs) loop-again (λ c κs. search needs) returns-2 (λ c. search needs) loop-again-2 returns-3)

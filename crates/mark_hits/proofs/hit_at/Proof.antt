@@ -18,4 +18,4 @@ returns-3 c =
     quote-missed _ _ _ _ _ (told .before .before .quote-at .ensures) _ (told .quote .given .1) _ (c .before .beyond .ensures) (c .if1 .left)
 
 pub hit-at-spec : {M : Type 1} → statement M
-hit-at-spec = tie.close (tie.spec (search needs) (search needs) (search needs) returns (search needs) returns-2 returns-3)
+hit-at-spec = tie.close (tie.spec (λ c κs. search needs) (λ c. search needs) (λ c. search needs) returns (λ c κs. search needs) returns-2 returns-3)

@@ -90,5 +90,6 @@ returns-2 c =
 pub next-end-spec : {M : Type 1} → statement M
 next-end-spec =
     tie.close
-    (tie.spec Inv-loop μ-loop loop-holds (search needs) (search needs) (search needs) (search needs) loop-again (search needs) (search needs)
-    (search needs) (search needs) loop-again-2 (search needs) returns (search needs) loop-again-3 returns-2)
+    (tie.spec Inv-loop μ-loop loop-holds (λ c. search needs) (λ c κs. search needs) (λ c κs. search needs) (λ c. search needs) loop-again
+    (λ c κs. search needs) (λ c. search needs) (λ c. search needs) (λ c. search needs) loop-again-2 (λ c κs. search needs) returns
+    (λ c. search needs) loop-again-3 returns-2)

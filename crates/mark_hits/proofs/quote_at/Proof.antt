@@ -17,4 +17,6 @@ returns-4 : tie.Need-returns-4
 returns-4 c = quote-inside _ _ _ _ (c .before .before .if1 .left) (c .before .if3 .left)
 
 pub quote-at-spec : {M : Type 1} → statement M
-quote-at-spec = tie.close (tie.spec returns (search needs) (search needs) returns-2 returns-3 (search needs) (search needs) returns-4)
+quote-at-spec =
+    tie.close
+    (tie.spec returns (λ c. search needs) (λ c. search needs) returns-2 returns-3 (λ c. search needs) (λ c. search needs) returns-4)

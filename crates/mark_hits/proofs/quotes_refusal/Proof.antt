@@ -24,4 +24,4 @@ returns-4 c =
     refuse-none _ _ 0 (at2 .before .if1 .left) (omega (arith, at2 .if2 .left)) (sym (c .before .both-prices .ensures) ∙ not-false _ (c .if3 .left))
 
 pub quotes-refusal-spec : {M : Type 1} → statement M
-quotes-refusal-spec = tie.close (tie.spec returns returns-2 (search needs) returns-3 returns-4)
+quotes-refusal-spec = tie.close (tie.spec returns returns-2 (λ c κs. search needs) returns-3 returns-4)

@@ -12,4 +12,4 @@ returns-2 : tie.Need-returns-2
 returns-2 c = (rw (ne-eqb _ _ (c .if1 .left)), (omega (arith, c .before .fits .e), omega (arith, c .before .fits .start)))
 
 pub bars-behind-spec : {M : Type 1} → statement M
-bars-behind-spec = tie.close (tie.spec returns (search needs) (search needs) (search needs) returns-2)
+bars-behind-spec = tie.close (tie.spec returns (λ c. search needs) (λ c. search needs) (λ c. search needs) returns-2)

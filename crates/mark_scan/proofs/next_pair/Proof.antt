@@ -91,5 +91,6 @@ returns-4 c =
 pub next-pair-spec : {M : Type 1} → statement M
 next-pair-spec =
     tie.close
-    (tie.spec Inv-loop μ-loop loop-holds (search needs) (search needs) (search needs) (search needs) (search needs) returns (search needs) returns-2
-    (search needs) (search needs) (search needs) (search needs) returns-3 (search needs) (search needs) loop-again returns-4)
+    (tie.spec Inv-loop μ-loop loop-holds (λ c. search needs) (λ c. search needs) (λ c κs. search needs) (λ c. search needs) (λ c. search needs)
+    returns (λ c κs. search needs) returns-2 (λ c κs. search needs) (λ c. search needs) (λ c. search needs) (λ c. search needs) returns-3
+    (λ c. search needs) (λ c. search needs) loop-again returns-4)

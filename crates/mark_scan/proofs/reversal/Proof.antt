@@ -46,6 +46,6 @@ returns-2 c = λ l t. reversal-none _ _ _ _ (c .before .loop .i) _ l t (c .befor
 pub reversal-spec : {M : Type 1} → statement M
 reversal-spec =
     tie.close
-    (tie.spec Inv-loop μ-loop loop-holds (search needs) (search needs) (search needs) (search needs) (search needs) (search needs)
-    (search needs) (search needs) (search needs) (search needs) (search needs) (search needs) (search needs) cast-result returns (search needs)
-    (search needs) loop-again returns-2)
+    (tie.spec Inv-loop μ-loop loop-holds (λ c. search needs) (λ c. search needs) (λ c. search needs) (λ c. search needs) (λ c. search needs)
+    (λ c. search needs) (λ c. search needs) (λ c. search needs) (λ c. search needs) (λ c κs. search needs) (λ c. search needs) (λ c. search needs)
+    (λ c. search needs) cast-result returns (λ c. search needs) (λ c. search needs) loop-again returns-2)

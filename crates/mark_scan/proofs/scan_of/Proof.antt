@@ -43,7 +43,8 @@ returns c =
 pub scan-of-spec : {M : Type 1} → statement M
 scan-of-spec =
     tie.close
-    (tie.spec (search needs) (search needs) (search needs) (search needs) (search needs) (search needs) (search needs) (search needs)
-    index-1-way (search needs) (search needs) index-1-wide-2 (search needs) (search needs) (search needs) index-1-wide-3 (search needs)
-    (search needs) (search needs) (search needs) (λ c κs. search needs) (search needs) (search needs) (search needs) (search needs) (search needs)
-    (search needs) (search needs) returns)
+    (tie.spec (λ c. search needs) (λ c. search needs) (λ c. search needs) (λ c κs. search needs) (λ c. search needs) (λ c. search needs)
+    (λ c. search needs) (λ c. search needs) index-1-way (λ c. search needs) (λ c. search needs) index-1-wide-2 (λ c. search needs)
+    (λ c κs. search needs) (λ c. search needs) index-1-wide-3 (λ c. search needs) (λ c κs. search needs) (λ c κs. search needs)
+    (λ c κs. search needs) (λ c κs. search needs) (λ c. search needs) (λ c κs. search needs) (λ c. search needs) (λ c κs. search needs)
+    (λ c. search needs) (λ c. search needs) (λ c κs. search needs) returns)

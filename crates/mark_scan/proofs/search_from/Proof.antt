@@ -35,6 +35,6 @@ returns-5 c =
 pub search-from-spec : {M : Type 1} → statement M
 search-from-spec =
     tie.close
-    (tie.spec returns (search needs) (search needs) (search needs) (search needs) (search needs) (search needs) (search needs) returns-2
-    (search needs) (search needs) (search needs) (search needs) (search needs) (search needs) returns-3 (search needs) (search needs) returns-4
-    returns-5)
+    (tie.spec returns (λ c. search needs) (λ c. search needs) (λ c. search needs) (λ c. search needs) (λ c. search needs) (λ c. search needs)
+    (λ c. search needs) returns-2 (λ c. search needs) (λ c. search needs) (λ c. search needs) (λ c. search needs) (λ c. search needs)
+    (λ c. search needs) returns-3 (λ c κs. search needs) (λ c. search needs) returns-4 returns-5)

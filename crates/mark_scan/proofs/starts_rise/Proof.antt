@@ -41,4 +41,5 @@ returns c good i j h w = c .before .loop .inv .1 good i j h (omega arith) .0
 pub starts-rise-spec : {M : Type 1} → statement M
 starts-rise-spec =
     tie.close
-    (tie.spec Inv-loop μ-loop loop-holds (search needs) (search needs) (search needs) (search needs) (search needs) loop-again returns)
+    (tie.spec Inv-loop μ-loop loop-holds (λ c. search needs) (λ c. search needs) (λ c. search needs) (λ c. search needs) (λ c. search needs)
+    loop-again returns)

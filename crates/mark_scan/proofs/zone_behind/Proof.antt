@@ -41,5 +41,6 @@ returns-2 c = behind-none _ _ _ _ (c .before .before .args .from) (c .before .lo
 pub zone-behind-spec : {M : Type 1} → statement M
 zone-behind-spec =
     tie.close
-    (tie.spec Inv-loop μ-loop loop-holds (search needs) (search needs) (search needs) (search needs) (search needs) (search needs)
-    (search needs) (search needs) (search needs) (search needs) cast-result returns (search needs) (search needs) loop-again returns-2)
+    (tie.spec Inv-loop μ-loop loop-holds (λ c. search needs) (λ c. search needs) (λ c. search needs) (λ c. search needs) (λ c. search needs)
+    (λ c. search needs) (λ c κs. search needs) (λ c. search needs) (λ c. search needs) (λ c. search needs) cast-result returns (λ c. search needs)
+    (λ c. search needs) loop-again returns-2)

@@ -23,5 +23,5 @@ returns c =
 pub zone-limit-spec : {M : Type 1} → statement M
 zone-limit-spec =
     tie.close
-    (tie.spec (search needs) (search needs) (search needs) (search needs) (search needs) (search needs) (search needs) (search needs)
-    (search needs) zone-behind-requires returns (search needs) (λ c. search needs))
+    (tie.spec (λ c. search needs) (λ c. search needs) (λ c. search needs) (λ c. search needs) (λ c. search needs) (λ c. search needs)
+    (λ c. search needs) (λ c. search needs) (λ c. search needs) zone-behind-requires returns (λ c κs. search needs) (λ c. search needs))

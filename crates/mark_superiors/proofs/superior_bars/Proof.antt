@@ -58,5 +58,5 @@ returns-2 c =
 pub superior-bars-spec : {M : Type 1} → statement M
 superior-bars-spec =
     tie.close
-    (tie.spec Inv-loop μ-loop loop-holds scan-at-requires (search needs) returns zone-bars-requires (search needs) (search needs) loop-again
-    (search needs) returns-2)
+    (tie.spec Inv-loop μ-loop loop-holds scan-at-requires (λ c. search needs) returns zone-bars-requires (λ c. search needs) (λ c. search needs)
+    loop-again (λ c. search needs) returns-2)

@@ -85,5 +85,6 @@ returns c =
 pub superior-rows-spec : {M : Type 1} → statement M
 superior-rows-spec =
     tie.close
-    (tie.spec Inv-loop μ-loop loop-holds cast-superior-bars (search needs) superior-bars-requires (search needs) (search needs) (search needs)
-    (search needs) number-bars-requires (search needs) (search needs) loop-again (search needs) (search needs) returns)
+    (tie.spec Inv-loop μ-loop loop-holds cast-superior-bars (λ c. search needs) superior-bars-requires (λ c. search needs) (λ c. search needs)
+    (λ c. search needs) (λ c. search needs) number-bars-requires (λ c. search needs) (λ c. search needs) loop-again (λ c. search needs)
+    (λ c. search needs) returns)

@@ -79,5 +79,5 @@ returns-2 c =
 pub zone-bars-spec : {M : Type 1} → statement M
 zone-bars-spec =
     tie.close
-    (tie.spec Inv-loop μ-loop (search needs) loop-holds (search needs) (search needs) (search needs) (search needs) returns cast-insert-bar
-    insert-bar-requires loop-less loop-again (search needs) returns-2)
+    (tie.spec Inv-loop μ-loop (λ c. search needs) loop-holds (λ c κs. search needs) (λ c. search needs) (λ c. search needs) (λ c. search needs)
+    returns cast-insert-bar insert-bar-requires loop-less loop-again (λ c. search needs) returns-2)

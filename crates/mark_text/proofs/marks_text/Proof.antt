@@ -57,5 +57,5 @@ returns c =
 pub marks-text-spec : {M : Type 1} → statement M
 marks-text-spec =
     tie.close
-    (tie.spec Inv-loop μ-loop (search needs) (search needs) (search needs) loop-holds (search needs) (search needs) (search needs) (search needs)
-    put-line-requires (search needs) (search needs) loop-again returns)
+    (tie.spec Inv-loop μ-loop (λ c. search needs) (λ c. search needs) (λ c κs. search needs) loop-holds (λ c. search needs) (λ c. search needs)
+    (λ c. search needs) (λ c. search needs) put-line-requires (λ c. search needs) (λ c. search needs) loop-again returns)

@@ -62,5 +62,5 @@ returns c =
 pub put-line-spec : {M : Type 1} → statement M
 put-line-spec =
     tie.close
-    (tie.spec (search needs) (search needs) put-number-requires (search needs) put-number-requires-2 (λ c κs. search needs) put-hex-requires
-    put-requires (search needs) returns)
+    (tie.spec (λ c κs. search needs) (λ c. search needs) put-number-requires (λ c. search needs) put-number-requires-2 (λ c κs. search needs)
+    put-hex-requires put-requires (λ c. search needs) returns)

@@ -14,4 +14,7 @@ unfolding ascii
 returns-2 c = let put = c .before .before in (rw (put .before .before .before .if1 .left) (put .put-word2 .ensures), omega arith)
 
 pub put-side-spec : {M : Type 1} → statement M
-put-side-spec = tie.close (tie.spec (search needs) (search needs) (search needs) returns (search needs) (search needs) (search needs) returns-2)
+put-side-spec =
+    tie.close
+    (tie.spec (λ c. search needs) (λ c κs. search needs) (λ c. search needs) returns (λ c. search needs) (λ c κs. search needs) (λ c. search needs)
+    returns-2)

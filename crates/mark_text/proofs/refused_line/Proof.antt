@@ -30,7 +30,8 @@ returns c =
 pub refused-line-spec : {M : Type 1} → statement M
 refused-line-spec =
     tie.close
-    (tie.spec (search needs) (search needs) (search needs) (search needs)
-    (λ c κs. omega (arith, length-fresh, few (c .before .before .before .before .before))) (search needs) (search needs)
-    (λ c κs. omega (arith, length-fresh, few (c .before .before .before .before .before .before .before .before .before))) (search needs)
-    (λ c κs. omega (arith, length-fresh, few (c .before .before .before .before .before .before .before .before .before .before .before .before))) returns)
+    (tie.spec (λ c. search needs) (λ c. search needs) (λ c κs. search needs) (λ c. search needs)
+    (λ c κs. omega (arith, length-fresh, few (c .before .before .before .before .before))) (λ c. search needs) (λ c. search needs)
+    (λ c κs. omega (arith, length-fresh, few (c .before .before .before .before .before .before .before .before .before))) (λ c. search needs)
+    (λ c κs. omega (arith, length-fresh, few (c .before .before .before .before .before .before .before .before .before .before .before .before)))
+    returns)

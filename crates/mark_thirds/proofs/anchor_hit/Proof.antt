@@ -84,5 +84,5 @@ returns-3 c =
 pub anchor-hit-spec : {M : Type 1} → statement M
 anchor-hit-spec =
     tie.close
-    (tie.spec Inv-loop μ-loop loop-holds (search needs) (search needs) (search needs) returns (search needs) (search needs) (search needs) returns-2
-    loop-less loop-again returns-3)
+    (tie.spec Inv-loop μ-loop loop-holds (λ c κs. search needs) (λ c. search needs) (λ c. search needs) returns (λ c. search needs)
+    (λ c κs. search needs) (λ c κs. search needs) returns-2 loop-less loop-again returns-3)

@@ -119,5 +119,5 @@ returns c =
 pub anchor-marks-spec : {M : Type 1} → statement M
 anchor-marks-spec =
     tie.close
-    (tie.spec Inv-loop μ-loop (search needs) loop-holds (search needs) (search needs) (search needs) (search needs) (search needs) loop-again
-    (search needs) put-hit-requires (search needs) loop-again-2 (search needs) returns)
+    (tie.spec Inv-loop μ-loop (λ c κs. search needs) loop-holds (λ c κs. search needs) (λ c. search needs) (λ c. search needs) (λ c. search needs)
+    (λ c. search needs) loop-again (λ c κs. search needs) put-hit-requires (λ c. search needs) loop-again-2 (λ c. search needs) returns)

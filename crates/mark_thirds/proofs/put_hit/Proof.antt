@@ -48,5 +48,5 @@ returns-3 c =
 pub put-hit-spec : {M : Type 1} → statement M
 put-hit-spec =
     tie.close
-    (tie.spec (search needs) (search needs) returns cast-key-of (search needs) (search needs) (search needs) returns-2 (search needs) (search needs)
-    (search needs) (search needs) (search needs) (search needs) returns-3)
+    (tie.spec (λ c. search needs) (λ c. search needs) returns cast-key-of (λ c κs. search needs) (λ c κs. search needs) (λ c. search needs) returns-2
+    (λ c. search needs) (λ c. search needs) (λ c. search needs) (λ c. search needs) (λ c. search needs) (λ c. search needs) returns-3)

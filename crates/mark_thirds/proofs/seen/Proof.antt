@@ -39,4 +39,6 @@ returns c =
     (head .loop .inv .1) (c .loop-test .left)
 
 pub seen-spec : {M : Type 1} → statement M
-seen-spec = tie.close (tie.spec Inv-loop μ-loop loop-holds (search needs) (search needs) (search needs) (search needs) loop-again returns)
+seen-spec =
+    tie.close
+    (tie.spec Inv-loop μ-loop loop-holds (λ c. search needs) (λ c. search needs) (λ c. search needs) (λ c. search needs) loop-again returns)

@@ -77,5 +77,5 @@ returns-3 c =
 pub zone-hit-spec : {M : Type 1} → statement M
 zone-hit-spec =
     tie.close
-    (tie.spec Inv-loop μ-loop (search needs) loop-holds (search needs) (search needs) (search needs) returns (search needs) (search needs) returns-2
-    loop-less loop-again returns-3)
+    (tie.spec Inv-loop μ-loop (λ c. search needs) loop-holds (λ c κs. search needs) (λ c. search needs) (λ c. search needs) returns
+    (λ c κs. search needs) (λ c κs. search needs) returns-2 loop-less loop-again returns-3)

@@ -43,4 +43,4 @@ returns-2 c =
     (text .0 ∙ sym (call-given _ (quotes s) (s .pre) _ _ _ (called .bigseg-3n-marks-all-zhongshu .ensures) (else1 .if1 .left)), text .1)
 
 pub marks-of-chart-spec : {M : Type 1} → statement M
-marks-of-chart-spec = tie.close (tie.spec (search needs) (search needs) returns marks-text-requires returns-2)
+marks-of-chart-spec = tie.close (tie.spec (λ c κs. search needs) (λ c κs. search needs) returns marks-text-requires returns-2)

@@ -52,5 +52,5 @@ returns-2 c =
 pub marks-of-file-spec : {M : Type 1} → statement M
 marks-of-file-spec =
     tie.close
-    (tie.spec (search needs) (search needs) (search needs) (search needs) returns array-share-prefix-highs slice-aggregate-marks-of-chart
-    array-share-prefix-lows slice-aggregate-marks-of-chart-2 marks-of-chart-requires returns-2)
+    (tie.spec (λ c. search needs) (λ c. search needs) (λ c κs. search needs) (λ c κs. search needs) returns array-share-prefix-highs
+    slice-aggregate-marks-of-chart array-share-prefix-lows slice-aggregate-marks-of-chart-2 marks-of-chart-requires returns-2)

@@ -18,4 +18,6 @@ run-requires : tie.Need-run-requires
 run-requires c κs = sym (ap placeOf (c .enum-told .given .1)) ∙ c .before .before .bad-place .ensures
 
 pub replay-spec : {M : Type 1} → statement M
-replay-spec = tie.close (tie.spec (search needs) (search needs) (search needs) returns enum-told run-requires (λ c. search needs))
+replay-spec =
+    tie.close
+    (tie.spec (λ c κs. search needs) (λ c. search needs) (λ c κs. search needs) returns enum-told run-requires (λ c. search needs))

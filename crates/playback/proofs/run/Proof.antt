@@ -112,6 +112,6 @@ returns c = finished _ _ _ _ _ _ _ _ _ (c .before .loop .inv) (c .loop-test .lef
 pub run-spec : {M : Type 1} → statement M
 run-spec =
     tie.close
-    (tie.spec Inv-loop μ-loop (search needs) loop-holds next-entry-requires (search needs) (search needs) array-write-answers add-count
-    loop-less loop-again (search needs) mul-highs array-write-highs mul-lows array-write-lows add-bars loop-less-2 loop-again-2 enum-told
-    loop-less-3 loop-again-3 returns)
+    (tie.spec Inv-loop μ-loop (λ c κs. search needs) loop-holds next-entry-requires (λ c. search needs) (λ c κs. search needs) array-write-answers
+    add-count loop-less loop-again (λ c. search needs) mul-highs array-write-highs mul-lows array-write-lows add-bars loop-less-2 loop-again-2
+    enum-told loop-less-3 loop-again-3 returns)

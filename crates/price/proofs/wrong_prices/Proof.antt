@@ -11,4 +11,4 @@ returns-2 : tie.Need-returns-2
 returns-2 c = rw (sym (c .before .is-price .ensures) ∙ c .if1 .left)
 
 pub wrong-prices-spec : {M : Type 1} → statement M
-wrong-prices-spec = tie.close (tie.spec (search needs) (search needs) returns returns-2)
+wrong-prices-spec = tie.close (tie.spec (λ c κs. search needs) (λ c κs. search needs) returns returns-2)

@@ -15,5 +15,6 @@ slice-aggregate-print-sections-2 c = sym (length-take-le _ _ (omega arith))
 pub print-report-spec : {M : Type 1} → statement M
 print-report-spec =
     tie.close
-    (tie.spec (search needs) (search needs) (search needs) (search needs) (search needs) (search needs) (search needs)
-    slice-aggregate-print-sections (search needs) slice-aggregate-print-sections-2 (search needs) (search needs))
+    (tie.spec (λ c. search needs) (λ c. search needs) (λ c κs. search needs) (λ c κs. search needs) (λ c. search needs) (λ c κs. search needs)
+    (λ c. search needs) slice-aggregate-print-sections (λ c. search needs) slice-aggregate-print-sections-2 (λ c κs. search needs)
+    (λ c. search needs))

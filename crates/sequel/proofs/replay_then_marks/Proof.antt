@@ -25,5 +25,5 @@ returns c =
 pub replay-then-marks-spec : {M : Type 1} → statement M
 replay-then-marks-spec =
     tie.close
-    (tie.spec (search needs) (λ c. search fit) (λ c. search fit) (λ c. search fit) (λ c. search fit) (search needs) (λ c. search fit)
-    (λ c. search fit) (λ c. search fit) (λ c. search fit) (search needs) returns)
+    (tie.spec (λ c κs. search needs) (λ c. search fit) (λ c. search fit) (λ c. search fit) (λ c. search fit) (λ c κs. search needs) (λ c. search fit)
+    (λ c. search fit) (λ c. search fit) (λ c. search fit) (λ c κs. search needs) returns)

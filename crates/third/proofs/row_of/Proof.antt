@@ -8,4 +8,4 @@ returns : tie.Need-returns
 returns c = rw (c .ground-of .ensures) refl
 
 pub row-of-spec : {M : Type 1} → statement M
-row-of-spec = tie.close (tie.spec (search needs) (search needs) returns)
+row-of-spec = tie.close (tie.spec (λ c κs. search needs) (λ c. search needs) returns)

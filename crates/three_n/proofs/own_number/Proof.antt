@@ -40,4 +40,4 @@ returns-3 c =
     (ap (any (λ (s : Stroke). leb _ (s .«end_bar»))) (sym all) ∙ sym (ends .ends-outside .ensures) ∙ c .if2 .left)
 
 pub own-number-spec : {M : Type 1} → statement M
-own-number-spec = tie.close (tie.spec (search needs) returns (search needs) ends-outside-requires returns-2 returns-3)
+own-number-spec = tie.close (tie.spec (λ c κs. search needs) returns (λ c κs. search needs) ends-outside-requires returns-2 returns-3)

@@ -82,5 +82,5 @@ returns c l ready =
 pub rows-by-spec : {M : Type 1} → statement M
 rows-by-spec =
     tie.close
-    (tie.spec (search needs) superior-rows-requires (search needs) anchor-limit-requires (search needs) anchor-rows-requires (search needs)
-    rows-of-requires (search needs) returns)
+    (tie.spec (λ c. search needs) superior-rows-requires (λ c κs. search needs) anchor-limit-requires (λ c. search needs) anchor-rows-requires
+    (λ c. search needs) rows-of-requires (λ c. search needs) returns)

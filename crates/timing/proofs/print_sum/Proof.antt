@@ -15,5 +15,6 @@ slice-aggregate-sum-of-2 c = sym (length-take-le _ _ (omega arith))
 pub print-sum-spec : {M : Type 1} → statement M
 print-sum-spec =
     tie.close
-    (tie.spec (search needs) (search needs) (search needs) (search needs) (search needs) (search needs) (search needs) slice-aggregate-sum-of
-    (search needs) slice-aggregate-sum-of-2 (search needs) (search needs) (search needs) (search needs))
+    (tie.spec (λ c. search needs) (λ c. search needs) (λ c κs. search needs) (λ c κs. search needs) (λ c. search needs) (λ c κs. search needs)
+    (λ c. search needs) slice-aggregate-sum-of (λ c. search needs) slice-aggregate-sum-of-2 (λ c κs. search needs) (λ c. search needs)
+    (λ c κs. search needs) (λ c. search needs))

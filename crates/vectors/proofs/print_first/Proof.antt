@@ -11,4 +11,6 @@ slice-aggregate-write-all c =
     let a = c .before .before .before .before .before .args in sym (length-take-le (a .n) (a .bytes .now) (omega arith))
 
 pub print-first-spec : {M : Type 1} → statement M
-print-first-spec = tie.close (tie.spec (search needs) (search needs) slice-aggregate-write-all (search needs) (search needs) (search needs))
+print-first-spec =
+    tie.close
+    (tie.spec (λ c. search needs) (λ c κs. search needs) slice-aggregate-write-all (λ c κs. search needs) (λ c. search needs) (λ c. search needs))

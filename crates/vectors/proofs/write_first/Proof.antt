@@ -19,5 +19,5 @@ slice-aggregate-write-chart-2 c =
 pub write-first-spec : {M : Type 1} → statement M
 write-first-spec =
     tie.close
-    (tie.spec (search needs) (search needs) (search needs) slice-aggregate-write-chart slice-aggregate-write-chart-2 (search needs)
-    (search needs) (search needs) (search needs) (search needs))
+    (tie.spec (λ c. search needs) (λ c. search needs) (λ c κs. search needs) slice-aggregate-write-chart slice-aggregate-write-chart-2
+    (λ c. search needs) (λ c κs. search needs) (λ c. search needs) (λ c κs. search needs) (λ c. search needs))

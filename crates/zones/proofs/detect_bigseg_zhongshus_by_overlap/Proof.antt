@@ -31,4 +31,4 @@ returns-2 c =
     c .rows-of .ensures ∙ ap given (made .1 .0 (known .if1 .left) .zones .are) ∙ zones-by _ _ (made .0) .1 (known .if1 .left)
 
 pub detect-bigseg-zhongshus-by-overlap-spec : {M : Type 1} → statement M
-detect-bigseg-zhongshus-by-overlap-spec = tie.close (tie.spec tables-of-requires (search needs) returns rows-of-requires returns-2)
+detect-bigseg-zhongshus-by-overlap-spec = tie.close (tie.spec tables-of-requires (λ c κs. search needs) returns rows-of-requires returns-2)

@@ -102,5 +102,5 @@ returns-4 c =
 pub tables-of-spec : {M : Type 1} → statement M
 tables-of-spec =
     tie.close
-    (tie.spec (search needs) (search needs) returns (search needs) returns-2 (search needs) (search needs) superiors-of-requires
-    overlap-requires (search needs) returns-3 returns-4)
+    (tie.spec (λ c κs. search needs) (λ c κs. search needs) returns (λ c κs. search needs) returns-2 (λ c. search needs) (λ c. search needs)
+    superiors-of-requires overlap-requires (λ c κs. search needs) returns-3 returns-4)

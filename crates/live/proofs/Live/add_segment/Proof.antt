@@ -60,5 +60,5 @@ returns-3 c =
 pub add-segment-spec : {M : Type 1} → statement M
 add-segment-spec =
     tie.close
-    (tie.spec (search needs) returns triple-refusal-requires returns-2 (search needs) (search needs) element-set-from-t add-chart (search needs)
-    returns-3)
+    (tie.spec (λ c κs. search needs) returns triple-refusal-requires returns-2 (λ c. search needs) (λ c. search needs) element-set-from-t add-chart
+    (λ c κs. search needs) returns-3)

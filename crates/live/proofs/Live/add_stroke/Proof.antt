@@ -62,5 +62,5 @@ returns-3 c =
 pub add-stroke-spec : {M : Type 1} → statement M
 add-stroke-spec =
     tie.close
-    (tie.spec (search needs) returns stroke-refusal-requires returns-2 (search needs) (search needs) element-set-from-s add-chart (search needs)
-    returns-3)
+    (tie.spec (λ c κs. search needs) returns stroke-refusal-requires returns-2 (λ c. search needs) (λ c. search needs) element-set-from-s add-chart
+    (λ c κs. search needs) returns-3)

@@ -70,4 +70,7 @@ returns-3 c =
     (bigs-does _ _ (accepts _ _ (zero (o .before))) _ _ _ (few o) (found o .same) (made .triples-of .ensures))
 
 pub derive-bigs-spec : {M : Type 1} → statement M
-derive-bigs-spec = tie.close (tie.spec (search needs) returns (search needs) returns-2 (search needs) triples-of-requires (search needs) returns-3)
+derive-bigs-spec =
+    tie.close
+    (tie.spec (λ c κs. search needs) returns (λ c κs. search needs) returns-2 (λ c κs. search needs) triples-of-requires (λ c κs. search needs)
+    returns-3)

@@ -72,4 +72,5 @@ returns-3 c =
 pub derive-superiors-spec : {M : Type 1} → statement M
 derive-superiors-spec =
     tie.close
-    (tie.spec (search needs) returns (search needs) returns-2 (search needs) triples-of-requires (search needs) returns-3)
+    (tie.spec (λ c κs. search needs) returns (λ c κs. search needs) returns-2 (λ c κs. search needs) triples-of-requires (λ c κs. search needs)
+    returns-3)

@@ -64,5 +64,5 @@ returns-3 c =
 pub lengthen-spec : {M : Type 1} → statement M
 lengthen-spec =
     tie.close
-    (tie.spec (search needs) returns lengthen-refusal-requires returns-2 sub-n (search needs) (search needs) way-write-given-chart
-    (search needs) returns-3)
+    (tie.spec (λ c κs. search needs) returns lengthen-refusal-requires returns-2 sub-n (λ c. search needs) (λ c. search needs) way-write-given-chart
+    (λ c κs. search needs) returns-3)

@@ -15,4 +15,4 @@ returns c =
     (renews (found .before .args .self) _ _ _ _ (sized (found .before)) (found .detect-bigseg-zhongshus-by-overlap .ensures))
 
 pub renewed-spec : {M : Type 1} → statement M
-renewed-spec = tie.close (tie.spec (search needs) (search needs) returns)
+renewed-spec = tie.close (tie.spec (λ c κs. search needs) (λ c κs. search needs) returns)

@@ -46,4 +46,6 @@ returns-3 : tie.Need-returns-3
 returns-3 c = c .renewed .ensures _ (zero (c .before .before)) (c .before .shortened .ensures)
 
 pub withdraw-spec : {M : Type 1} → statement M
-withdraw-spec = tie.close (tie.spec (search needs) returns withdraw-refusal-requires returns-2 shortened-requires (search needs) returns-3)
+withdraw-spec =
+    tie.close
+    (tie.spec (λ c κs. search needs) returns withdraw-refusal-requires returns-2 shortened-requires (λ c κs. search needs) returns-3)
