@@ -22,4 +22,4 @@ returns : tie.Need-returns Inv-loop μ-loop
 returns c = omega (arith, decimal-one (c .before .loop .rest) (c .loop-test .left))
 
 pub decimal-count-spec : {M : Type 1} → statement M
-decimal-count-spec = tie.close (tie.spec Inv-loop μ-loop (search needs) (search needs) (search needs) loop-again returns)
+decimal-count-spec = tie.close (tie.spec Inv-loop μ-loop (λ c. search needs) (λ c. search needs) (λ c. search needs) loop-again returns)

@@ -7,4 +7,5 @@ use Rattle.text.proofs.digit.Tie as tie
 pub digit-spec : {M : Type 1} → statement M
 digit-spec =
     tie.close
-    (tie.spec (search needs) (search needs) (search needs) (search needs) (λ c. digit-below _ (c .if1 .taken)) (λ c. digit-above _ (c .if1 .left)))
+    (tie.spec (λ c. search needs) (λ c. search needs) (λ c. search needs) (λ c. search needs) (λ c. digit-below _ (c .if1 .taken))
+    (λ c. digit-above _ (c .if1 .left)))

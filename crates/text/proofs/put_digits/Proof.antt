@@ -29,5 +29,6 @@ returns c = back-all _ _ _ _ _ (c .before .before .before .pre .1) _ _ (c .loop-
 pub put-digits-spec : {M : Type 1} → statement M
 put-digits-spec =
     tie.close
-    (tie.spec Inv-loop μ-loop (search needs) (search needs) (search needs) digit-requires (search needs) (search needs) (search needs) (search needs)
-    loop-again (search needs) (search needs) returns)
+    (tie.spec Inv-loop μ-loop (λ c. search needs) (λ c. search needs) (λ c. search needs) digit-requires (λ c. search needs) (λ c. search needs)
+    (λ c. search needs) (λ c. search needs)
+    loop-again (λ c. search needs) (λ c. search needs) returns)

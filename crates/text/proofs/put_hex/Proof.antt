@@ -5,4 +5,4 @@ use Rattle.text.proofs.put_hex.Statement.{statement}
 use Rattle.text.proofs.put_hex.Tie as tie
 
 pub put-hex-spec : {M : Type 1} → statement M
-put-hex-spec = tie.close (tie.spec (search needs) (search needs) (λ c. rw digits-hex at (c .before .before .put-digits .ensures)))
+put-hex-spec = tie.close (tie.spec (λ c. search needs) (λ c. search needs) (λ c. rw digits-hex at (c .before .before .put-digits .ensures)))
