@@ -2,12 +2,11 @@
 -- record's fields. Assumes nothing.
 use Prim.Native.Nat.{ℕ, suc, _+_, _-_, _*_, _≤_, _<_}
 use native.Mathlib.Omega.{arith}
-use native.Mathlib.Numerals.{add-one}
 use mathlib.Core.Path.{_≡_, refl, ap, _∙_}
 use mathlib.Core.Bool.{Bool, false}
 use mathlib.Core.List.{List, [], _∷_, _++_, append-assoc}
 use lib.ListN.{length, getD, take, drop, set, length-append, length-drop}
-use lib.Seq.{take-all, take-suc-set, take-at, drop-at, drop-cons, drop-drop}
+use lib.Seq.{take-all, take-at, drop-at, drop-cons, drop-drop}
 use lib.Ieee.{Float}
 use Rattle.chart.specs.declared.Stroke.{Stroke}
 use Rattle.chart.specs.declared.Triple.{Triple}
@@ -15,7 +14,6 @@ use Rattle.chart.specs.declared.Chart.{Chart}
 use Rattle.price.specs.Bytes.{ofBytes}
 use Rattle.rules.specs.Lists.{any}
 use Rattle.rules.specs.Records.{levelsOf, Quotes}
-use Rattle.rules.specs.Machine.{withStrokes, withSegments, withBigs, withSuperiors}
 use Rattle.rules.specs.File.{Record, stroke, segment, big, superior, bar, number, price, strokeIn, tripleIn, append, fill}
 use Rattle.laws.proofs.Lists.{false-any, all-getD}
 use Rattle.laws.proofs.Levels as level

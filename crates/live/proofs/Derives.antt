@@ -1,9 +1,8 @@
 -- A level that is derived: the classes of the level below, as its records. Assumes nothing.
 use Prim.Native.Nat.{ℕ, _+_, _≤_, _<_}
 use mathlib.Core.Path.{_≡_, refl, sym, ap, _∙_}
-use mathlib.Core.Bool.{Bool, true, false, not, false≢true}
+use mathlib.Core.Bool.{true, false, not, false≢true}
 use mathlib.Core.List.{List, [], _∷_, _++_, map}
-use native.Mathlib.Omega.{arith}
 use native.Mathlib.Numerals.{add-one}
 use lib.ListN.{length, take, set, getD}
 use lib.Seq.{take-suc}
@@ -14,11 +13,11 @@ use Rattle.chart.specs.declared.Class.{Class}
 use Rattle.chart.specs.declared.Chart.{Chart}
 use Rattle.rules.specs.Answer.{rowsAnswer}
 use Rattle.rules.specs.Lists.{isEmpty}
-use Rattle.rules.specs.Records.{Levels, levelsOf}
+use Rattle.rules.specs.Records.{levelsOf}
 use Rattle.rules.specs.Classes.{segmentClasses, bigClasses}
 use Rattle.rules.specs.Refusals.{refuse, aboveOne, deriveRefusal, segmentClassesRefusal, bigClassesRefusal}
 use Rattle.rules.specs.Calls.{segmentClassesCall, bigClassesCall}
-use Rattle.rules.specs.Machine.{Call, deriveBigs, deriveSuperiors, asTriple, refusal, stepped, withBigs, withSuperiors}
+use Rattle.rules.specs.Machine.{Call, deriveBigs, deriveSuperiors, asTriple, refusal, stepped}
 use Rattle.laws.proofs.Tests.{refuse-no, refuse-on}
 use Rattle.laws.proofs.Arrays.{one-more}
 use Rattle.laws.proofs.Lists.{map-append}

@@ -1,5 +1,4 @@
 -- `live::shortened` meets its contract. Assumes nothing.
-use Prim.Native.Nat.{_≤_}
 use mathlib.Core.Path.{_≡_}
 use borrow.Author.Needs.{needs}
 use Rattle.laws.proofs.Arrays.{length-via, Sized, sized-via}
