@@ -21,7 +21,7 @@ use Rattle.rules.specs.Text.{marksText, refusedLine}
 use Rattle.rules.specs.File.{marksOf}
 use Rattle.laws.proofs.Tests.{or-l, or-r, refuse-no, refuse-on}
 use Rattle.laws.proofs.Lists.{all-map, false-any, at-lt, at-getD}
-use Rattle.laws.proofs.Answers.{on-good, answered-refused, Rows, rows-given, rows-refused}
+use Rattle.laws.proofs.Answers.{answered-refused, Rows, call-number, call-rows}
 use Rattle.laws.proofs.Quoted.{marks-quoted}
 
 -- ---- the price of every mark is a price: it is a lent one
@@ -44,19 +44,16 @@ marks-priced l q h =
 -- ---- the call's answer, on a chart that is not refused with 21
 
 module _ (c : Chart) (q : Quotes) (good : badChart c ≡ false) (number count : ℕ) (rows : List NMark) (e : rowsAnswer number count rows ≡ nCall c q) where
-  by-levels : rowsAnswer number count rows ≡ answered (nRefusal (levelsOf c) q) (nMarks (levelsOf c) q)
-  unfolding nCall
-  by-levels = e ∙ on-good c _ good
-
   -- a refusal is printed with the place 0
   pub call-refused : (number ≡ 0 → ⊥) → marksOf (record { levels = levelsOf c; bars = q }) ≡ refusedLine number 0
-  unfolding marksOf
+  unfolding marksOf nCall
   call-refused h =
-      let r = rows-refused count rows (nRefusal (levelsOf c) q) (nMarks (levelsOf c) q) number h by-levels in
-      rw (marksOf, answered-refused (nRefusal (levelsOf c) q) number (nMarks (levelsOf c) q) h r)
+      let r = call-number c (λ (l : Levels). nRefusal l q) (λ (l : Levels). nMarks l q) number count rows e good in
+      rw (marksOf, answered-refused (nRefusal (levelsOf c) q) number (nMarks (levelsOf c) q) h (sym r))
 
   found : number ≡ 0 → Rows count rows (nRefusal (levelsOf c) q) (nMarks (levelsOf c) q)
-  found z = rows-given count rows _ _ (ap (λ (n : ℕ). rowsAnswer n count rows) (sym z) ∙ by-levels)
+  unfolding nCall
+  found z = call-rows c (λ (l : Levels). nRefusal l q) (λ (l : Levels). nMarks l q) number count rows e z
 
   -- marks have a line each
   pub call-given : number ≡ 0 → marksOf (record { levels = levelsOf c; bars = q }) ≡ marksText (take count rows)
