@@ -65,12 +65,18 @@ pub fn print_case3_head(name: &[u8], case3: u8, number: u8, count: u16) {
     print_answer(number, count);
 }
 
-// How many rows are printed: as many as there are, and no more than an array has.
+// How many places of an array are filled: as many as are counted, and no more than it has.
+pub fn filled(count: usize, size: usize) -> usize
+    ensures { λ r. ⌜ r ≤ size ⌝ }
+{
+    if count < size { count } else { size }
+}
+
+// How many rows are printed.
 pub fn shown(count: u16, size: usize) -> usize
     ensures { λ r. ⌜ r ≤ size ⌝ }
 {
-    let n = count as usize;
-    if n < size { n } else { size }
+    filled(count as usize, size)
 }
 
 // The range of a big, with a space behind it.

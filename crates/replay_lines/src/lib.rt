@@ -6,22 +6,14 @@ use chart::Triple;
 use live::Live;
 use mark_rows::NRows;
 use third::ThirdRows;
-ghost use Prim.Native.Nat.{_≤_};
 
 fn print_answer(number: u8) {
     io::print_decimal(1, number as u64);
     io::write_all(1, b"\n");
 }
 
-// The places that the answers fill: as many as there are calls, and no more than an array has.
-fn filled(calls: usize) -> usize
-    ensures { λ r. ⌜ r ≤ 32768 ⌝ }
-{
-    if calls < 32768 { calls } else { 32768 }
-}
-
 fn print_answers(numbers: [u8; 32768], calls: usize) {
-    for i in 0..filled(calls) {
+    for i in 0..printing::filled(calls, 32768) {
         print_answer(numbers[i]);
     }
 }

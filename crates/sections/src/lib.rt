@@ -3,7 +3,7 @@
 use chart::Chart;
 use classes::ClassRows;
 use first_marks::FirstRows;
-ghost use Prim.Native.Nat.{_≤_, _<_};
+ghost use Prim.Native.Nat.{_<_};
 
 // The range and the end point of the big with an index.
 fn print_big(chart: Chart, k: usize)
@@ -122,13 +122,6 @@ fn print_sections(chart: Chart, highs: &[f64], lows: &[f64]) {
     print_first_sells(chart, 1);
 }
 
-// The places that a file's bars fill: as many as there are bars, and no more than an array has.
-fn filled(bars: usize) -> usize
-    ensures { λ r. ⌜ r ≤ 2048 ⌝ }
-{
-    if bars < 2048 { bars } else { 2048 }
-}
-
 // All sections, or `refused N at P` alone. A file has at most 2,048 bars.
 pub fn print_report(file: &[u8]) {
     let mut highs = [0.0; 2048];
@@ -138,7 +131,7 @@ pub fn print_report(file: &[u8]) {
         printing::print_refused(read.number, read.place);
         return;
     }
-    let n = filled(read.bars);
+    let n = printing::filled(read.bars, 2048);
     let chart = read.chart;
     print_sections(chart, &highs[..n], &lows[..n]);
 }

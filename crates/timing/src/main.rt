@@ -1,7 +1,7 @@
 // Makes one call many times on the chart file on standard input, for the script oracle/timing to time, and prints a sum of the answers.
 // Arguments: the call (zones, third or threen) and how many times it is made. Of this program only safety is proved.
 use chart::Chart;
-ghost use Prim.Native.Nat.{_<_, _≤_};
+ghost use Prim.Native.Nat.{_<_};
 
 // The call that an argument names.
 enum Call {
@@ -86,13 +86,6 @@ fn sum_of(call: Call, start: Chart, highs: &[f64], lows: &[f64], turns: u32) -> 
     sum
 }
 
-// The places that a file's bars fill: as many as there are bars, and no more than an array has.
-fn filled(bars: usize) -> usize
-    ensures { λ r. ⌜ r ≤ 2048 ⌝ }
-{
-    if bars < 2048 { bars } else { 2048 }
-}
-
 // The sum of the turns on a chart file, or `refused N at P` alone.
 fn print_sum(file: &[u8], call: Call, turns: u32) {
     let mut highs = [0.0; 2048];
@@ -102,7 +95,7 @@ fn print_sum(file: &[u8], call: Call, turns: u32) {
         printing::print_refused(read.number, read.place);
         return;
     }
-    let n = filled(read.bars);
+    let n = printing::filled(read.bars, 2048);
     let chart = read.chart;
     let sum = sum_of(call, chart, &highs[..n], &lows[..n], turns);
     printing::print_head(b"SUM", 0, sum);

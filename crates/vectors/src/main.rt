@@ -71,12 +71,6 @@ fn print_case(kind: u8, number: u64, case: &[u8]) {
     }
 }
 
-fn wide(x: u8) -> usize
-    ensures { λ r. ⌜ r < 256 ⌝ }
-{
-    x as usize
-}
-
 // Where the case that starts at `at` ends: behind the end of s, if it is cut short.
 fn end_of(s: &[u8], at: usize) -> usize
     requires { ⌜ (at ≤ length (now s)) × (length (now s) < 0x1000_0000) ⌝ }
@@ -85,10 +79,9 @@ fn end_of(s: &[u8], at: usize) -> usize
     if s.len() - at < 5 {
         return at + 5;
     }
-    at
-        + 5
-        + wide(s[at + 1])
-        + 256 * (wide(s[at + 2]) + 256 * (wide(s[at + 3]) + 256 * wide(s[at + 4])))
+    let low = fields::two_at(s, at + 1) as usize;
+    let high = fields::two_at(s, at + 3) as usize;
+    at + 5 + low + 65536 * high
 }
 
 // Each case of the stream; a line for one that is cut short.
