@@ -29,7 +29,8 @@ refuse-later b n k r e f = rw e f
 pub stroke-number :
     (n k : ℕ) (xs : List Stroke) (s : Stroke) (price order apart : Bool) → n ≤ length xs → k ≡ n - 1 → price ≡ badPrices s → order ≡ badStroke s
     → apart ≡ unjoined (cond (eqb n 0) none (some (getD xs k no-stroke))) s
-    → refuse (leb 512 n) 3 (refuse (ltb 1 (s .direction)) 2 (refuse price 1 (refuse order 4 (refuse false 5 (refuse apart 14 0))))) ≡ strokeRefusal (take n xs) s
+    → refuse (leb 512 n) 3 (refuse (ltb 1 (s .direction)) 2 (refuse price 1 (refuse order 4 (refuse false 5 (refuse apart 14 0)))))
+    ≡ strokeRefusal (take n xs) s
 unfolding strokeRefusal refuse
 stroke-number n k xs s price order apart h e p o a = rw (length-take-le n xs h, last-read n k xs no-stroke e h, p, o, a)
 

@@ -8,7 +8,7 @@ use lib.ListN.{length, take, drop}
 use lib.Seq.{take-at}
 use borrow.Author.Tests.{ltb-false, eq-eqb}
 use Rattle.chart.specs.declared.Chart.{Chart}
-use Rattle.rules.specs.Answer.{AnswerBy, NumberAt, answered, refused, given}
+use Rattle.rules.specs.Answer.{AnswerBy, NumberAt, answered, given}
 use Rattle.rules.specs.Records.{Quotes, levelsOf}
 use Rattle.rules.specs.Refusals.{badChart, badQuotes, unequal}
 use Rattle.rules.specs.File.{Content, written, writeRefusal, writeCall, bufferAfter, readFile, readCall, slicesAfter}

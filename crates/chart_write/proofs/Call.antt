@@ -14,10 +14,11 @@ use Rattle.price.specs.Price.{allPrices}
 use Rattle.rules.specs.Answer.{answered}
 use Rattle.rules.specs.Lists.{any, each}
 use Rattle.rules.specs.Records.{levelsOf, Quotes}
-use Rattle.rules.specs.Refusals.{refuse, wrongStroke, wrongTriple, overfull, badLevels, badChart, unequal, badQuotes}
+use Rattle.rules.specs.Refusals.{refuse, wrongStroke, overfull, badLevels, badChart, unequal, badQuotes}
 use Rattle.rules.specs.File.{Record, stroke, segment, big, superior, recordBytes, barRecords, recordsOf, written, writeRefusal, writeCall, bufferAfter}
 use Rattle.laws.proofs.Lists.{each-append}
 use Rattle.laws.proofs.Tests.{or-l, or-r, refuse-no, refuse-on}
+use Rattle.laws.proofs.Ordered.{strokes-right}
 use Rattle.laws.proofs.Arrays.{Sized}
 use Rattle.laws.proofs.Answers.{counted}
 use Rattle.laws.proofs.FileLong.{used, length-written}
@@ -63,13 +64,8 @@ module _ (c : Chart) where
       )
 
   pub good-strokes : badChart c ≡ false → any wrongStroke (take (c .«stroke_count») (c .strokes)) ≡ false
-  unfolding badChart badLevels levelsOf
-  good-strokes h =
-      let s = any wrongStroke (take (c .«stroke_count») (c .strokes)) in
-      let g = any wrongTriple (take (c .«segment_count») (c .segments)) in
-      let b = any wrongTriple (take (c .«big_count») (c .bigs)) in
-      let u = any wrongTriple (take (c .«superior_count») (c .superiors)) in
-      or-l s g (or-l (s || g) b (or-l (s || g || b) u (or-r (overfull c) (s || g || b || u) h)))
+  unfolding badChart levelsOf
+  good-strokes h = strokes-right (levelsOf c) (or-r (overfull c) (badLevels (levelsOf c)) h)
 
   module _ (at n : ℕ) (room : at + length (levelBytes (levelsOf c)) ≤ n) where
     pub room-4 : at + length (strokesIn ++ segmentsIn ++ bigsIn ++ superiorsIn) ≤ n

@@ -2,7 +2,7 @@
 use Prim.Native.Nat.{ℕ, suc, _+_, _<_, _≤_}
 use native.Mathlib.Omega.{arith}
 use mathlib.Core.Path.{_≡_, refl, sym, ap, _∙_}
-use mathlib.Core.Bool.{Bool, true, false, not, _&&_, _||_, and-false}
+use mathlib.Core.Bool.{Bool, true, false, not, _&&_, and-false}
 use mathlib.Core.List.{List, [], _∷_}
 use lib.ListN.{length, getD, take, drop}
 use lib.Seq.{length-take-le}
@@ -15,7 +15,7 @@ use Rattle.price.proofs.Order.{price-fits}
 use Rattle.chart.specs.declared.Zone.{Zone}
 use Rattle.rules.specs.Lists.{any}
 use Rattle.rules.specs.Refusals.{samePrice, sameZone, sameZones}
-use Rattle.laws.proofs.Tests.{or-l, or-r}
+use Rattle.laws.proofs.Tests.{none-of-four}
 use Rattle.laws.proofs.Lists.{any-at}
 use Rattle.laws.proofs.Arrays.{at-in, left-more, left-none}
 use Rattle.kept.specs.ZonePrices.{unpriced}
@@ -44,18 +44,8 @@ pub record PricedZone (z : Zone) : Type 0 where
 pub priced : (z : Zone) → unpriced z ≡ false → PricedZone z
 unfolding unpriced
 priced z h =
-    let a = not (isPrice (z .zd)) in
-    let b = not (isPrice (z .zg)) in
-    let c = not (isPrice (z .dd)) in
-    let d = not (isPrice (z .gg)) in
-    let abc = or-l (a || b || c) d h in
-    let ab = or-l (a || b) c abc in
-    record {
-      zd-price = not-false _ (or-l a b ab);
-      zg-price = not-false _ (or-r a b ab);
-      dd-price = not-false _ (or-r (a || b) c abc);
-      gg-price = not-false _ (or-r (a || b || c) d h);
-    }
+    let n = none-of-four (not (isPrice (z .zd))) (not (isPrice (z .zg))) (not (isPrice (z .dd))) (not (isPrice (z .gg))) h in
+    record { zd-price = not-false _ (n .0); zg-price = not-false _ (n .1); dd-price = not-false _ (n .2); gg-price = not-false _ (n .3) }
 
 -- two zones, by the comparisons of their prices
 pub same-fields :

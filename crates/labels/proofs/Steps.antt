@@ -74,7 +74,8 @@ module _ (k : Option Named) (z : Zone) (alone : Bool) (o : Name) (f : nameIn o �
   pub label-named : (n : ℕ) → o ≡ Number n → Extends front (colName n) label → LabelOf k z alone (record { label = label; last = last.Named z (n + 1) })
   label-named n e x = record { text = x .text ∙ rw (m, ← f, e); last = rw (← f, e, add-one) }
 
-  pub label-extended : (l : Last) → namedIn l ≡ k → o ≡ Extension → Extends front (nameBytes none) label → LabelOf k z alone (record { label = label; last = l })
+  pub label-extended :
+      (l : Last) → namedIn l ≡ k → o ≡ Extension → Extends front (nameBytes none) label → LabelOf k z alone (record { label = label; last = l })
   label-extended l g e x = record { text = x .text ∙ rw (m, ← f, e); last = rw (← f, e) g }
 
 pub label-next : (k : Option Named) (z : Zone) (alone : Bool) (r : Labelled) → LabelOf k z alone r → nextName (namedIn (r .last)) ≤ nextName k + 1

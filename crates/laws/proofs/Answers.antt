@@ -2,7 +2,7 @@
 use Prim.Native.Nat.{ℕ, zero, suc, _≤_, _<_}
 use native.Mathlib.Omega.{arith}
 use mathlib.Core.Path.{_≡_, refl, sym}
-use mathlib.Core.Bool.{Bool, true, false, cond, _||_}
+use mathlib.Core.Bool.{Bool, true, false, cond}
 use mathlib.Core.List.{List, []}
 use lib.ListN.{length, take}
 use lib.Dec.{eqb, leb, ltb}
@@ -12,7 +12,7 @@ use Rattle.rules.specs.Answer.{Answer, refused, given, answered, rowsAnswer}
 use Rattle.rules.specs.Records.{Levels, levelsOf}
 use Rattle.rules.specs.Refusals.{overfull, badLevels, badChart}
 use Rattle.rules.specs.Calls.{onChart}
-use Rattle.laws.proofs.Tests.{or-l, or-r}
+use Rattle.laws.proofs.Tests.{or-l, none-of-four}
 
 module _ {A : Type 0} (rows : List A) where
   pub refused-rows : (n : ℕ) → 0 < n → rowsAnswer n 0 rows ≡ refused n
@@ -115,17 +115,14 @@ pub record Counted (c : Chart) : Type 0 where
 pub counts : (c : Chart) → overfull c ≡ false → Counted c
 unfolding overfull
 counts c f =
-    let f0 = ltb 512 (c .«stroke_count») in
-    let f1 = ltb 256 (c .«segment_count») in
-    let f2 = ltb 256 (c .«big_count») in
-    let f3 = ltb 256 (c .«superior_count») in
-    let f012 = or-l (f0 || f1 || f2) f3 f in
-    let f01 = or-l (f0 || f1) f2 f012 in
+    let n =
+    none-of-four (ltb 512 (c .«stroke_count»)) (ltb 256 (c .«segment_count»)) (ltb 256 (c .«big_count»)) (ltb 256 (c .«superior_count»)) f
+    in
     record {
-      strokes = ltb-false 512 (c .«stroke_count») (or-l f0 f1 f01);
-      segments = ltb-false 256 (c .«segment_count») (or-r f0 f1 f01);
-      bigs = ltb-false 256 (c .«big_count») (or-r (f0 || f1) f2 f012);
-      superiors = ltb-false 256 (c .«superior_count») (or-r (f0 || f1 || f2) f3 f);
+      strokes = ltb-false 512 (c .«stroke_count») (n .0);
+      segments = ltb-false 256 (c .«segment_count») (n .1);
+      bigs = ltb-false 256 (c .«big_count») (n .2);
+      superiors = ltb-false 256 (c .«superior_count») (n .3);
     }
 
 pub room : (c : Chart) → badChart c ≡ false → overfull c ≡ false

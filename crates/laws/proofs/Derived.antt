@@ -18,7 +18,8 @@ use Rattle.chart.specs.declared.Class.{Class}
 use Rattle.rules.specs.Lists.{any, andThen, collect}
 use Rattle.rules.specs.Records.{Levels}
 use Rattle.rules.specs.Ranges.{firstStroke, lastStroke}
-use Rattle.rules.specs.Classes.{Item, item, segmentItem, bigItem, beyond, atOrBeyond, atOrShort, case2From, case2, case3, wanted, classAt, tried, walk, moved, extendOver, extend, extendAll, classes}
+use Rattle.rules.specs.Classes.{Item, item, segmentItem, bigItem, beyond, atOrBeyond, atOrShort, case2From, case2, case3, wanted, classAt, tried}
+use Rattle.rules.specs.Classes.{walk, moved, extendOver, extend, extendAll, classes}
 use Rattle.rules.specs.Refusals.{wrongTriple, brokenTriples}
 use Rattle.rules.specs.Machine.{asTriple}
 use Rattle.laws.proofs.Tests.{none-some, or-i, and-l, pick, pick-option, pick-cond}

@@ -41,7 +41,8 @@ use Rattle.rules.specs.Marks.{
 use Rattle.rules.specs.Refusals.{brokenLevels}
 use Rattle.rules.specs.Claims.{Earlier}
 use Rattle.laws.specs.Lists.{Rising}
-use Rattle.laws.proofs.Lists.{All, nil, cons, Sorted, none-left, then, all-of, all-map, all-right, each-all, sorted-keep, sorted-before, sorted-collect, sorted-image, any-true}
+use Rattle.laws.proofs.Lists.{All, nil, cons, none-left, then, all-of, all-map, all-right, each-all, sorted-keep, sorted-before}
+use Rattle.laws.proofs.Lists.{sorted-collect, sorted-image, any-true}
 use Rattle.laws.proofs.Keys.{Key, same, same-eq}
 use Rattle.laws.proofs.Thirds.{thirdKey}
 use Rattle.laws.proofs.Unique.{markKey, later, thirds-stay, Zero, puts-new, numbered-all, marks-all}
@@ -111,7 +112,8 @@ led ms q buy a b k z h o =
     record { first = z .mark; there = z .there; order = z .order; side = ap (λ (y : Key). y .«is_buy») (z .key); earlier = omega arith }
 
 -- a bar of the third marks
-zero-third : (c : Levels) (q : Quotes) (buy : Bool) (a : ℕ) → zeroAt (thirdMarks c q) buy a ≡ true → Zero (nMarks c q) (record { «bar_index» = a; «is_buy» = buy })
+zero-third :
+    (c : Levels) (q : Quotes) (buy : Bool) (a : ℕ) → zeroAt (thirdMarks c q) buy a ≡ true → Zero (nMarks c q) (record { «bar_index» = a; «is_buy» = buy })
 unfolding zeroAt orderZero
 zero-third c q buy a e =
     let k : Key = record { «bar_index» = a; «is_buy» = buy } in

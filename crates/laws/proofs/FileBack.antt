@@ -2,13 +2,12 @@
 use Prim.Native.Nat.{ℕ, suc, _+_, _≤_, _<_}
 use native.Mathlib.Omega.{arith}
 use mathlib.Core.Path.{_≡_, refl, sym, ap, _∙_}
-use mathlib.Core.Bool.{true, false, _||_}
+use mathlib.Core.Bool.{true, false}
 use mathlib.Core.List.{List, [], _∷_, _++_, map, foldl, foldl-append, append-assoc, append-nil}
-use lib.ListN.{length, take, drop, length-append, length-take}
+use lib.ListN.{length, take, drop, length-append}
 use lib.Seq.{take-at, drop-at}
-use lib.Dec.{ltb}
 use lib.Ieee.{Float}
-use borrow.Author.Tests.{ltb-false, eqb-true, lt-leb, not-false}
+use borrow.Author.Tests.{eqb-true, lt-leb, not-false}
 use Rattle.chart.specs.declared.Stroke.{Stroke}
 use Rattle.chart.specs.declared.Triple.{Triple}
 use Rattle.chart.specs.declared.Chart.{Chart}
@@ -47,6 +46,7 @@ use Rattle.rules.specs.File.{
   marksOutput,
 }
 use Rattle.laws.proofs.Tests.{or-l, or-r, refuse-no, refuse-on, length-snoc}
+use Rattle.laws.proofs.Ordered.{chart-fit}
 use Rattle.laws.proofs.Lists.{All, nil, cons, all-both}
 use Rattle.laws.proofs.FileSteps.{read-known, behind-full, read-refused, read-given}
 use Rattle.laws.proofs.FileBytes.{wide, Good, length-fields, length-record, record-back}
@@ -227,23 +227,8 @@ marks-back c q b w p e s = ap printed (read-back 2048 c q b w p e s)
 chart-within : (c : Chart) (q : Quotes) (n : ℕ) → overfull c ≡ false → length (q .highs) ≤ n → Within n (record { levels = levelsOf c; bars = q })
 unfolding overfull levelsOf
 chart-within c q n o h =
-    let S = ltb 512 (c .«stroke_count») in
-    let G = ltb 256 (c .«segment_count») in
-    let B = ltb 256 (c .«big_count») in
-    let U = ltb 256 (c .«superior_count») in
-    let o3 = or-l (S || G || B) U o in
-    let o2 = or-l (S || G) B o3 in
-    omega (
-      arith,
-      ltb-false 512 (c .«stroke_count») (or-l S G o2),
-      ltb-false 256 (c .«segment_count») (or-r S G o2),
-      ltb-false 256 (c .«big_count») (or-r (S || G) B o3),
-      ltb-false 256 (c .«superior_count») (or-r (S || G || B) U o),
-      length-take (c .«stroke_count») (c .strokes),
-      length-take (c .«segment_count») (c .segments),
-      length-take (c .«big_count») (c .bigs),
-      length-take (c .«superior_count») (c .superiors),
-    )
+    let f = chart-fit c o in
+    record { strokes = f .strokes; segments = f .segments; bigs = f .bigs; superiors = f .superiors; bars = h }
 
 -- where it is not refused, the bytes it wrote are read back as the chart and the bars, with a place for every bar
 pub write-back :

@@ -87,7 +87,8 @@ unfolding badChart
 chart-sound n c q o s = rw (o, s .levels)
 
 -- and the mark call of `marks` has neither 8 nor 1
-pub marks-sound : (n : ℕ) (c : Content) → n ≤ 65536 → Sound n c → nRefusal (c .levels) (c .bars) ≡ refuse (endsOutside (c .levels) (c .bars)) 9 (zonesRefusal (c .levels))
+pub marks-sound :
+    (n : ℕ) (c : Content) → n ≤ 65536 → Sound n c → nRefusal (c .levels) (c .bars) ≡ refuse (endsOutside (c .levels) (c .bars)) 9 (zonesRefusal (c .levels))
 unfolding nRefusal badSlices unequal refuse
 marks-sound n c h s =
     let w = s .within in

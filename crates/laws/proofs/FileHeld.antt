@@ -29,7 +29,7 @@ use Rattle.rules.specs.File.{
   barRecords,
   recordsOf,
 }
-use Rattle.laws.proofs.Tests.{or-l, or-r, and-l, and-r, length-snoc}
+use Rattle.laws.proofs.Tests.{or-l, or-r, none-of-four, and-l, and-r, length-snoc}
 use Rattle.laws.proofs.Lists.{All, nil, cons, all-append, all-image, any-false, false-any}
 
 -- ---- a property of every record
@@ -54,25 +54,26 @@ module _ {P : Record → Type 0} where
   unfolding nothing barRecords
   every-nothing = record { strokes = nil; segments = nil; bigs = nil; superiors = nil; bars = nil; equal = refl }
 
+  every :
+      {c : Content} → All (λ (s : Stroke). P (stroke s)) (c .levels .strokes) → All (λ (t : Triple). P (segment t)) (c .levels .segments)
+      → All (λ (t : Triple). P (big t)) (c .levels .bigs) → All (λ (t : Triple). P (superior t)) (c .levels .superiors)
+      → All P (barRecords (c .bars .highs) (c .bars .lows)) → length (c .bars .highs) ≡ length (c .bars .lows) → Every P c
+  every s g b u r e = record { strokes = s; segments = g; bigs = b; superiors = u; bars = r; equal = e }
+
   pub every-append : {c : Content} (r : Record) → Every P c → P r → Every P (append c r)
   unfolding append withStrokes withSegments withBigs withSuperiors
   every-append (stroke s) e p =
-      record { strokes = all-append (e .strokes) (cons p nil); segments = e .segments; bigs = e .bigs; superiors = e .superiors; bars = e .bars; equal = e .equal }
+      every (all-append (e .strokes) (cons p nil)) (e .segments) (e .bigs) (e .superiors) (e .bars) (e .equal)
   every-append (segment t) e p =
-      record { strokes = e .strokes; segments = all-append (e .segments) (cons p nil); bigs = e .bigs; superiors = e .superiors; bars = e .bars; equal = e .equal }
+      every (e .strokes) (all-append (e .segments) (cons p nil)) (e .bigs) (e .superiors) (e .bars) (e .equal)
   every-append (big t) e p =
-      record { strokes = e .strokes; segments = e .segments; bigs = all-append (e .bigs) (cons p nil); superiors = e .superiors; bars = e .bars; equal = e .equal }
+      every (e .strokes) (e .segments) (all-append (e .bigs) (cons p nil)) (e .superiors) (e .bars) (e .equal)
   every-append (superior t) e p =
-      record { strokes = e .strokes; segments = e .segments; bigs = e .bigs; superiors = all-append (e .superiors) (cons p nil); bars = e .bars; equal = e .equal }
+      every (e .strokes) (e .segments) (e .bigs) (all-append (e .superiors) (cons p nil)) (e .bars) (e .equal)
   every-append {c} (bar h l) e p =
-      record {
-        strokes = e .strokes;
-        segments = e .segments;
-        bigs = e .bigs;
-        superiors = e .superiors;
-        bars = rw (bars-snoc (c .bars .highs) (c .bars .lows) h l (e .equal)) (all-append (e .bars) (cons p nil));
-        equal = length-snoc (c .bars .highs) h ∙ ap suc (e .equal) ∙ sym (length-snoc (c .bars .lows) l);
-      }
+      every (e .strokes) (e .segments) (e .bigs) (e .superiors)
+      (rw (bars-snoc (c .bars .highs) (c .bars .lows) h l (e .equal)) (all-append (e .bars) (cons p nil)))
+      (length-snoc (c .bars .highs) h ∙ ap suc (e .equal) ∙ sym (length-snoc (c .bars .lows) l))
 
   pub every-all : {c : Content} → Every P c → All P (recordsOf (c .levels) (c .bars))
   unfolding recordsOf
@@ -96,20 +97,14 @@ module _ (p : Record → Bool) (c : Content) where
       length (c .bars .highs) ≡ length (c .bars .lows) → All (λ (r : Record). p r ≡ false) (barRecords (c .bars .highs) (c .bars .lows))
       → anyLevel p (c .levels) ≡ false → Every (λ (r : Record). p r ≡ false) c
   every-any q b e =
-      let S = any (λ (s : Stroke). p (stroke s)) (c .levels .strokes) in
-      let G = any (λ (t : Triple). p (segment t)) (c .levels .segments) in
-      let B = any (λ (t : Triple). p (big t)) (c .levels .bigs) in
-      let U = any (λ (t : Triple). p (superior t)) (c .levels .superiors) in
-      let e3 = or-l (S || G || B) U e in
-      let e2 = or-l (S || G) B e3 in
-      record {
-        strokes = any-false _ (c .levels .strokes) (or-l S G e2);
-        segments = any-false _ (c .levels .segments) (or-r S G e2);
-        bigs = any-false _ (c .levels .bigs) (or-r (S || G) B e3);
-        superiors = any-false _ (c .levels .superiors) (or-r (S || G || B) U e);
-        bars = b;
-        equal = q;
-      }
+      let n =
+      none-of-four (any (λ (s : Stroke). p (stroke s)) (c .levels .strokes)) (any (λ (t : Triple). p (segment t)) (c .levels .segments))
+      (any (λ (t : Triple). p (big t)) (c .levels .bigs))
+      (any (λ (t : Triple). p (superior t)) (c .levels .superiors))
+      e
+      in
+      every (any-false _ (c .levels .strokes) (n .0)) (any-false _ (c .levels .segments) (n .1)) (any-false _ (c .levels .bigs) (n .2))
+      (any-false _ (c .levels .superiors) (n .3)) b q
 
   pub any-every : Every (λ (r : Record). p r ≡ false) c → anyLevel p (c .levels) ≡ false
   any-every e =

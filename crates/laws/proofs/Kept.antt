@@ -13,10 +13,12 @@ use Rattle.chart.specs.declared.Triple.{Triple}
 use Rattle.rules.specs.Lists.{isEmpty}
 use Rattle.rules.specs.Records.{Levels}
 use Rattle.rules.specs.Classes.{segmentItem, bigItem, segmentClasses, bigClasses}
-use Rattle.rules.specs.Refusals.{refuse, aboveOne, badPrices, badStroke, unjoined, badTriple, outside, wrongStroke, wrongTriple, strokeRefusal, tripleRefusal, held, withdrawRefusal, deriveRefusal}
-use Rattle.rules.specs.Machine.{Call, addStroke, addSegment, addBig, addSuperior, lengthen, withdraw, deriveBigs, deriveSuperiors, refusal, stepped, withStrokes, withSegments, withBigs, withSuperiors, withdrawn, asTriple}
+use Rattle.rules.specs.Refusals.{refuse, aboveOne, badPrices, badStroke, unjoined, badTriple, outside, wrongStroke, wrongTriple, strokeRefusal}
+use Rattle.rules.specs.Refusals.{tripleRefusal, held, withdrawRefusal, deriveRefusal}
+use Rattle.rules.specs.Machine.{Call, addStroke, addSegment, addBig, addSuperior, lengthen, withdraw, deriveBigs, deriveSuperiors, refusal, stepped}
+use Rattle.rules.specs.Machine.{withStrokes, withSegments, withBigs, withSuperiors, withdrawn, asTriple}
 use Rattle.laws.proofs.Tests.{or-i, refuse-no, refuse-on, any-snoc, any-dropLast, length-snoc, length-dropLast, last-is}
-use Rattle.laws.proofs.Ordered.{Strokes, Triples, InOrder}
+use Rattle.laws.proofs.Ordered.{Strokes, Triples, InOrder, levels-in-order}
 use Rattle.laws.proofs.Triples.{more, added, dropped, lengthened-ok, lengthened-right, lengthened-length, lowered, stroke-added, stroke-dropped}
 use Rattle.laws.proofs.Derived.{derived-ok, segment-way, big-way}
 
@@ -112,90 +114,37 @@ narrower (x ∷ xs) ts h o =
 pub kept : (c : Levels) → InOrder c → (k : Call) → refusal c k ≡ 0 → InOrder (stepped c k)
 unfolding refusal stepped withdrawRefusal withdrawn withStrokes withSegments withBigs withSuperiors segmentClasses bigClasses
 kept c o (addStroke s) h =
-    record {
-      strokes = stroke-more (c .strokes) s (o .strokes) h;
-      segments = wider (c .strokes) (s ∷ []) (c .segments) (o .segments);
-      bigs = o .bigs;
-      superiors = o .superiors;
-    }
+    levels-in-order (stroke-more (c .strokes) s (o .strokes) h) (wider (c .strokes) (s ∷ []) (c .segments) (o .segments)) (o .bigs) (o .superiors)
 kept c o (addSegment t) h =
-    record {
-      strokes = o .strokes;
-      segments = triple-more (length (c .strokes)) (c .segments) t (o .segments) h;
-      bigs = wider (c .segments) (t ∷ []) (c .bigs) (o .bigs);
-      superiors = o .superiors;
-    }
+    levels-in-order (o .strokes) (triple-more (length (c .strokes)) (c .segments) t (o .segments) h) (wider (c .segments) (t ∷ []) (c .bigs) (o .bigs))
+    (o .superiors)
 kept c o (addBig t) h =
-    record {
-      strokes = o .strokes;
-      segments = o .segments;
-      bigs = triple-more (length (c .segments)) (c .bigs) t (o .bigs) h;
-      superiors = wider (c .bigs) (t ∷ []) (c .superiors) (o .superiors);
-    }
+    levels-in-order (o .strokes) (o .segments) (triple-more (length (c .segments)) (c .bigs) t (o .bigs) h)
+    (wider (c .bigs) (t ∷ []) (c .superiors) (o .superiors))
 kept c o (addSuperior t) h =
-    record {
-      strokes = o .strokes;
-      segments = o .segments;
-      bigs = o .bigs;
-      superiors = triple-more (length (c .bigs)) (c .superiors) t (o .superiors) h;
-    }
+    levels-in-order (o .strokes) (o .segments) (o .bigs) (triple-more (length (c .bigs)) (c .superiors) t (o .superiors) h)
 kept c o (lengthen last) h =
     let us = c .superiors in
-    record {
-      strokes = o .strokes;
-      segments = o .segments;
-      bigs = o .bigs;
-      superiors =
-          record {
-            right = lengthened-right us last ∙ o .superiors .right;
-            rising = lengthened-ok (length (c .bigs)) none us last (o .superiors .rising) (rw (last-is us) at h);
-            fit = omega (arith, o .superiors .fit, lengthened-length us last);
-          };
-    }
+    levels-in-order (o .strokes) (o .segments) (o .bigs)
+    (record {
+      right = lengthened-right us last ∙ o .superiors .right;
+      rising = lengthened-ok (length (c .bigs)) none us last (o .superiors .rising) (rw (last-is us) at h);
+      fit = omega (arith, o .superiors .fit, lengthened-length us last);
+    })
 kept c o (withdraw zero) h =
-    record {
-      strokes = stroke-fewer (c .strokes) (o .strokes);
-      segments = narrower (c .strokes) (c .segments) h (o .segments);
-      bigs = o .bigs;
-      superiors = o .superiors;
-    }
+    levels-in-order (stroke-fewer (c .strokes) (o .strokes)) (narrower (c .strokes) (c .segments) h (o .segments)) (o .bigs) (o .superiors)
 kept c o (withdraw (suc zero)) h =
-    record {
-      strokes = o .strokes;
-      segments = triple-fewer (length (c .strokes)) (c .segments) (o .segments);
-      bigs = narrower (c .segments) (c .bigs) h (o .bigs);
-      superiors = o .superiors;
-    }
+    levels-in-order (o .strokes) (triple-fewer (length (c .strokes)) (c .segments) (o .segments)) (narrower (c .segments) (c .bigs) h (o .bigs)) (o .superiors)
 kept c o (withdraw (suc (suc zero))) h =
-    record {
-      strokes = o .strokes;
-      segments = o .segments;
-      bigs = triple-fewer (length (c .segments)) (c .bigs) (o .bigs);
-      superiors = narrower (c .bigs) (c .superiors) h (o .superiors);
-    }
+    levels-in-order (o .strokes) (o .segments) (triple-fewer (length (c .segments)) (c .bigs) (o .bigs)) (narrower (c .bigs) (c .superiors) h (o .superiors))
 kept c o (withdraw (suc (suc (suc zero)))) h =
-    record {
-      strokes = o .strokes;
-      segments = o .segments;
-      bigs = o .bigs;
-      superiors = triple-fewer (length (c .bigs)) (c .superiors) (o .superiors);
-    }
+    levels-in-order (o .strokes) (o .segments) (o .bigs) (triple-fewer (length (c .bigs)) (c .superiors) (o .superiors))
 kept c o (withdraw (suc (suc (suc (suc n))))) h = absurd (omega arith)
 kept c o (deriveBigs byte) h =
     let new = map asTriple (segmentClasses (eqb byte 1) c) in
     let d = derived-ok (length (c .strokes)) (c .segments) (eqb byte 1) (segmentItem c) (segment-way c) (o .segments) in
-    record {
-      strokes = o .strokes;
-      segments = o .segments;
-      bigs = triples-more (length (c .segments)) (c .bigs) new byte h d;
-      superiors = wider (c .bigs) new (c .superiors) (o .superiors);
-    }
+    levels-in-order (o .strokes) (o .segments) (triples-more (length (c .segments)) (c .bigs) new byte h d) (wider (c .bigs) new (c .superiors) (o .superiors))
 kept c o (deriveSuperiors byte) h =
     let new = map asTriple (bigClasses (eqb byte 1) c) in
     let d = derived-ok (length (c .segments)) (c .bigs) (eqb byte 1) (bigItem c) (big-way c) (o .bigs) in
-    record {
-      strokes = o .strokes;
-      segments = o .segments;
-      bigs = o .bigs;
-      superiors = triples-more (length (c .bigs)) (c .superiors) new byte h d;
-    }
+    levels-in-order (o .strokes) (o .segments) (o .bigs) (triples-more (length (c .bigs)) (c .superiors) new byte h d)

@@ -11,7 +11,7 @@ use borrow.Author.Tests.{eqb-true, eq-eqb, ltb-true, ltb-false}
 use Rattle.rules.specs.Lists.{any}
 use Rattle.laws.specs.Lists.{Distinct}
 use Rattle.laws.proofs.Tests.{and-l, and-r}
-use Rattle.laws.proofs.Lists.{All, nil, cons, Sorted, none-left, then, all-map, all-append, sorted-at, any-false}
+use Rattle.laws.proofs.Lists.{All, nil, cons, none-left, then, all-map, all-append, sorted-at, any-false}
 
 module _ {A : Type 0} where
   pub distinct-snoc : {xs : List A} {y : A} → Distinct xs → All (λ (x : A). x ≡ y → ⊥) xs → Distinct (xs ++ (y ∷ []))

@@ -20,7 +20,8 @@ use Rattle.rules.specs.Zones.{runs, opposingOf, zonesOf, zonesFrom, membersIn}
 use Rattle.rules.specs.Refusals.{brokenTriples}
 use Rattle.rules.specs.Claims.{Opposes, MemberAt, OneZone}
 use Rattle.laws.proofs.Tests.{none-some}
-use Rattle.laws.proofs.Lists.{All, nil, cons, all-map, all-append, all-cond, all-at, all-image, at-left, at-right, in-take, in-keep, map-append, map-at, at-map, each-append, in-each, each-in, all-both}
+use Rattle.laws.proofs.Lists.{All, nil, cons, all-map, all-append, all-cond, all-at, all-image, at-left, at-right, in-take, in-keep}
+use Rattle.laws.proofs.Lists.{map-append, map-at, at-map, each-append, in-each, each-in, all-both}
 use Rattle.laws.proofs.Triples.{follows, cons-of, triple-in}
 use Rattle.laws.proofs.Runs.{Part, members, Owned, zoneOf, partsOf, runs-split}
 use Rattle.laws.proofs.Bounds.{GoodRange, Bounded, runs-bounded}

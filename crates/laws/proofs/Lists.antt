@@ -6,7 +6,8 @@ use native.Mathlib.Nat.{zero-add}
 use mathlib.Core.Path.{_≡_, refl, sym, subst}
 use mathlib.Core.Logic.{_⊎_, inl, inr}
 use mathlib.Core.Bool.{Bool, true, false, cond, _||_, false≢true}
-use mathlib.Core.List.{List, [], _∷_, _++_, map, append-assoc, List·Memᴰ, List·Memᴰ·head, List·Memᴰ·tail, List·Memᴰ·not-nil, List·Memᴰ·append-cases, Memᴰ·append-left, Memᴰ·append-right}
+use mathlib.Core.List.{List, [], _∷_, _++_, map, append-assoc, List·Memᴰ, List·Memᴰ·head, List·Memᴰ·tail, List·Memᴰ·not-nil, List·Memᴰ·append-cases}
+use mathlib.Core.List.{Memᴰ·append-left, Memᴰ·append-right}
 use mathlib.Core.Option.{Option, none, some}
 use lib.ListN.{length, take, drop, getD, getElem?, length-append}
 use Rattle.rules.specs.Lists.{keep, find, any, before, behind, andThen, collect, each}
@@ -117,7 +118,9 @@ module _ {A : Type 0} where
   any-true p [] e = absurd (false≢true e)
   any-true p (x ∷ xs) e = go (p x) refl e (any-true p xs)
     where
-      go : (t : Bool) → p x ≡ t → (t || any p xs) ≡ true → (any p xs ≡ true → (y : A) × List·Memᴰ y xs × (p y ≡ true)) → (y : A) × List·Memᴰ y (x ∷ xs) × (p y ≡ true)
+      go :
+          (t : Bool) → p x ≡ t → (t || any p xs) ≡ true → (any p xs ≡ true → (y : A) × List·Memᴰ y xs × (p y ≡ true))
+          → (y : A) × List·Memᴰ y (x ∷ xs) × (p y ≡ true)
       go true q f r = (x, List·Memᴰ·head refl, q)
       go false q f r = let (y, m, h) = r f in (y, List·Memᴰ·tail m, h)
 

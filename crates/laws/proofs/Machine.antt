@@ -15,7 +15,7 @@ use Rattle.rules.specs.Zones.{overlapZones}
 use Rattle.rules.specs.Refusals.{refuse, overfull, badLevels, badChart, brokenStrokes, brokenTriples, brokenLevels, sameZones, LiveData, keptZones, badLive}
 use Rattle.rules.specs.Machine.{Call, Machine, empty, zones, refusal, stepped, countUp, step, run, answers}
 use Rattle.rules.specs.Live.{liveRefusal}
-use Rattle.laws.proofs.Tests.{or-i, or-l, or-r, pick-cond}
+use Rattle.laws.proofs.Tests.{or-i, or-l, or-r, none-of-four, pick-cond}
 use Rattle.laws.proofs.Ordered.{InOrder, chart-fit, in-order, not-bad, not-broken}
 use Rattle.laws.proofs.Lists.{all-map}
 use Rattle.laws.proofs.Zones.{zones-bounded, zones-256}
@@ -114,13 +114,11 @@ module _ (b : LiveData) where
       let b4 = ltb 256 (b .zoneCount) in
       let s = sameZones (keptZones b) (overlapZones l) in
       let h4 = or-l (b1 || b2 || b3 || b4) (not s) h in
-      let h3 = or-l (b1 || b2 || b3) b4 h4 in
-      let h2 = or-l (b1 || b2) b3 h3 in
-      let h1 = or-l b1 b2 h2 in
+      let n = none-of-four b1 b2 b3 b4 h4 in
       record {
-        room = h1;
-        ordered = in-order l (chart-fit (b .chart) h1) (or-r b1 b2 h2) (or-r (b1 || b2) b3 h3);
-        few = ltb-false 256 (b .zoneCount) (or-r (b1 || b2 || b3) b4 h4);
+        room = n .0;
+        ordered = in-order l (chart-fit (b .chart) (n .0)) (n .1) (n .2);
+        few = ltb-false 256 (b .zoneCount) (n .3);
         same = not-false s (or-r (b1 || b2 || b3 || b4) (not s) h);
       }
 

@@ -44,7 +44,8 @@ use Rattle.rules.specs.Marks.{
   anchorNumbered,
   nMarks,
 }
-use Rattle.laws.proofs.Lists.{All, nil, cons, all-of, all-map, all-cond, all-keep, all-before, all-behind, all-drop, all-find, all-image, all-each, all-collect, collect-length, all-answer}
+use Rattle.laws.proofs.Lists.{All, nil, cons, all-of, all-map, all-cond, all-keep, all-before, all-behind, all-drop, all-find, all-image}
+use Rattle.laws.proofs.Lists.{all-each, all-collect, collect-length, all-answer}
 use Rattle.laws.specs.Lists.{Distinct, endBars}
 use Rattle.laws.proofs.Keys.{pigeonhole, Key}
 use Rattle.laws.proofs.Thirds.{thirdKey, thirds-all, thirds-distinct}

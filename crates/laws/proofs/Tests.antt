@@ -39,6 +39,15 @@ or-r false b h = h
 pub or-i : (a b : Bool) → a ≡ false → b ≡ false → (a || b) ≡ false
 or-i a b p q = rw (p, q)
 
+abbrev pub NoneOfFour : Bool → Bool → Bool → Bool → Type 0
+NoneOfFour a b c d = (a ≡ false) × (b ≡ false) × (c ≡ false) × (d ≡ false)
+
+pub none-of-four : (a b c d : Bool) → (a || b || c || d) ≡ false → NoneOfFour a b c d
+none-of-four a b c d h =
+    let first-three = or-l (a || b || c) d h in
+    let first-two = or-l (a || b) c first-three in
+    (or-l a b first-two, or-r a b first-two, or-r (a || b) c first-three, or-r (a || b || c) d h)
+
 pub and-l : (a b : Bool) → (a && b) ≡ true → a ≡ true
 and-l true b h = refl
 and-l false b h = h

@@ -33,7 +33,8 @@ use Rattle.rules.specs.Marks.{
   thirdMarks,
 }
 use Rattle.rules.specs.Claims.{named, Beyond}
-use Rattle.laws.proofs.Lists.{All, nil, cons, none-left, all-map, all-append, all-cond, all-each, all-there, find-passes, map-append, at-getD, all-answer}
+use Rattle.laws.proofs.Lists.{All, nil, cons, none-left, all-map, all-append, all-cond, all-each, all-there, find-passes, map-append, at-getD}
+use Rattle.laws.proofs.Lists.{all-answer}
 use Rattle.laws.specs.Lists.{Distinct}
 use Rattle.laws.proofs.Keys.{Key, same, addKey, add-distinct}
 

@@ -19,7 +19,8 @@ use Rattle.live.proofs.Levelled.{before}
 abbrev ending : Triple → ℕ → Triple
 ending t last = record { direction = t .direction; first = t .first; last = last }
 
-last-set : (xs : List Triple) (k last : ℕ) (d : Triple) → k < length xs → take (suc k) (set xs k (ending (getD xs k d) last)) ≡ lengthened (take (suc k) xs) last
+last-set :
+    (xs : List Triple) (k last : ℕ) (d : Triple) → k < length xs → take (suc k) (set xs k (ending (getD xs k d) last)) ≡ lengthened (take (suc k) xs) last
 unfolding lengthened
 last-set [] k last d h = absurd (omega arith)
 last-set (x ∷ xs) zero last d h = refl

@@ -22,7 +22,7 @@ use Rattle.mark_hits.specs.declared.Hit.{Hit}
 use Rattle.mark_hits.specs.declared.End.{End}
 use Rattle.mark_hits.specs.declared.End.the-variants.{At, Over}
 use Rattle.mark_hits.specs.Found.{hitBar}
-use Rattle.mark_hits.specs.Anchors.{endsIn, EndsBy, NextEnd, barsIn}
+use Rattle.mark_hits.specs.Anchors.{endsIn, EndsBy, NextEnd, endBarsIn}
 use Rattle.mark_hits.proofs.Hits.{hit-test}
 use Rattle.mark_hits.proofs.Anchors.{bars-none, bars-over, bars-next}
 use Rattle.mark_rows.specs.Rows.{keyOf, barIn, marksIn, Grown, Pushes, KeepsRoom, KeepsEnds}
@@ -82,7 +82,7 @@ pub record HitsSoFar
     pub marks :
         (c : Levels) (stop : ℕ → Bool) → Bigs c (a .bigs) bars prices → Limits (a .limit) stop
         → foldl push3N (marksIn q (take count keys) (take count orders))
-        (numberedHits q (a .buy) (a .price) stop order (barsIn c (a .buy) (a .bar) (drop k (c .bigs))))
+        (numberedHits q (a .buy) (a .price) stop order (endBarsIn c (a .buy) (a .bar) (drop k (c .bigs))))
         ≡ foldl push3N (marksIn q (take n keys₀) (take n orders₀)) (allHits c q a stop)
 
 module _
@@ -94,7 +94,7 @@ module _
     module _ (keys orders : List ℕ) (order count k : ℕ) (so-far : HitsSoFar bars prices q a n keys₀ orders₀ keys orders order count k) where
       ended :
           ((c : Levels) (stop : ℕ → Bool) → Bigs c (a .bigs) bars prices → Limits (a .limit) stop
-          → numberedHits q (a .buy) (a .price) stop order (barsIn c (a .buy) (a .bar) (drop k (c .bigs))) ≡ [])
+          → numberedHits q (a .buy) (a .price) stop order (endBarsIn c (a .buy) (a .bar) (drop k (c .bigs))) ≡ [])
           → HitRows bars prices q a n keys₀ orders₀ count keys orders
       ended none-left c stop t l =
           ap (foldl push3N (marksIn q (take count keys) (take count orders))) (sym (none-left c stop t l)) ∙ so-far .marks c stop t l
@@ -121,7 +121,7 @@ module _
               ended
               (λ c stop t l.
               ap (numberedHits q (a .buy) (a .price) stop order) (bars-next c (a .buy) (a .bar) k end (ends c t) next bar x e)
-              ∙ hits-over q (a .buy) (a .price) stop order bar (barsIn c (a .buy) (a .bar) (drop next (c .bigs))) (l bar small ∙ sym test ∙ f))
+              ∙ hits-over q (a .buy) (a .price) stop order bar (endBarsIn c (a .buy) (a .bar) (drop next (c .bigs))) (l bar small ∙ sym test ∙ f))
 
           -- one bar more, with these rows
           module _
@@ -132,7 +132,7 @@ module _
               opened :
                   (c : Levels) (stop : ℕ → Bool) → Bigs c (a .bigs) bars prices → Limits (a .limit) stop
                   → foldl push3N (marksIn q (take count keys) (take count orders))
-                  (numberedHits q (a .buy) (a .price) stop order (bar ∷ barsIn c (a .buy) (a .bar) (drop next (c .bigs))))
+                  (numberedHits q (a .buy) (a .price) stop order (bar ∷ endBarsIn c (a .buy) (a .bar) (drop next (c .bigs))))
                   ≡ foldl push3N (marksIn q (take n keys₀) (take n orders₀)) (allHits c q a stop)
               opened c stop t l = rw (bars-next c (a .buy) (a .bar) k end (ends c t) next bar x e) at (so-far .marks c stop t l)
 

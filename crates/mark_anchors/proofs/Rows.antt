@@ -19,7 +19,7 @@ use Rattle.mark_scan.proofs.Scans.{stroke-limit}
 use Rattle.mark_hits.specs.declared.Price.the-variants as price
 use Rattle.mark_hits.specs.declared.Side.{Side}
 use Rattle.mark_hits.specs.declared.Anchor.{Anchor}
-use Rattle.mark_hits.specs.Anchors.{barsIn, anchorsIn, priceOf, anchorIn, AnchorAt, AnchorsOf}
+use Rattle.mark_hits.specs.Anchors.{endBarsIn, anchorsIn, priceOf, anchorIn, AnchorAt, AnchorsOf}
 use Rattle.mark_hits.proofs.Anchors.{bars-behind, anchor-here}
 use Rattle.mark_rows.specs.Rows.{marksIn, Grown, KeepsEnds}
 use Rattle.mark_rows.proofs.Numbers.{grown-none, grown-then}
@@ -34,7 +34,7 @@ module _ (c : Levels) (q : Quotes) (buy : Bool) (a : Stroke) (x : Anchor) (is : 
 
   numbers-at :
       (p : Float) → x .price ≡ price.At p
-      → anchorNumbered c q buy a ≡ numberedHits q buy p (reaches (anchorStop c buy)) 0 (barsIn c buy (x .bar) (drop (x .from) (c .bigs)))
+      → anchorNumbered c q buy a ≡ numberedHits q buy p (reaches (anchorStop c buy)) 0 (endBarsIn c buy (x .bar) (drop (x .from) (c .bigs)))
   unfolding anchorNumbered
   numbers-at p e =
       let opened : anchorNumbered c q buy a ≡ numberedHits q buy p (reaches (anchorStop c buy)) 0 (anchorBars c buy a) =
@@ -102,7 +102,14 @@ module _
           -- one whose hits are pushed
           pub anchors-at :
               (p : Float) → x .price ≡ price.At p → (count' : ℕ) (keys' orders' : List ℕ)
-              → HitRows bars prices q (record { bigs = s .bigs; from = x .from; price = p; limit = limit; bar = x .bar; buy = s .buy }) count keys orders count' keys' orders'
+              → HitRows bars prices q (record {
+                bigs = s .bigs;
+                from = x .from;
+                price = p;
+                limit = limit;
+                bar = x .bar;
+                buy = s .buy;
+              }) count keys orders count' keys' orders'
               → KeepsEnds (λ (c : Levels). Bigs c (s .bigs) bars prices) keys count keys' count' → Grown count keys orders count' keys' orders'
               → AnchorsSoFar bars prices q s limit n keys₀ orders₀ rows cs found keys' orders' count' (i + 1)
           anchors-at p e count' keys' orders' marks room grown =

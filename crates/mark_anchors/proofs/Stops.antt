@@ -18,7 +18,7 @@ use Rattle.rules.specs.Marks.{anchorStop}
 use Rattle.laws.proofs.Arrays.{at-out}
 use Rattle.laws.proofs.Lists.{at-getD, lt-at}
 use Rattle.levels.proofs.Read.{no-triple}
-use Rattle.tables.specs.Tables.{Bigs, pointIn, Sups, tripleIn}
+use Rattle.tables.specs.Tables.{Bigs, pointIn, Sups, ownerIn}
 use Rattle.tables.proofs.Bigs.{point-is}
 use Rattle.tables.proofs.Sups.{triple-is}
 use Rattle.mark_scan.specs.Scan.{limitOf}
@@ -63,7 +63,7 @@ module _
       abbrev s : Triple
       s = getD (c .superiors) j no-triple
 
-      is : tripleIn (getD sups j []) ≡ s
+      is : ownerIn (getD sups j []) ≡ s
       is = triple-is c n sups t j h
 
       one : drop j (c .superiors) ≡ s ∷ drop (j + 1) (c .superiors)

@@ -15,7 +15,7 @@ use Rattle.tables.specs.declared.Counts.{Counts}
 use Rattle.tables.specs.Tables.{Bigs, Sups}
 use Rattle.mark_scan.specs.Scan.{Limits, limitOf}
 use Rattle.mark_hits.specs.declared.Side.{Side}
-use Rattle.mark_hits.specs.Anchors.{barsIn, anchorsIn}
+use Rattle.mark_hits.specs.Anchors.{endBarsIn, anchorsIn}
 use Rattle.mark_rows.specs.Rows.{Room, Gathered}
 use Rattle.mark_anchors.specs.declared.AnchorHits.{AnchorHits}
 
@@ -44,7 +44,7 @@ numberedHits q buy p stop order bars = numbered q buy order (keep (beats q buy p
 
 -- the marks of all hits of an anchor
 abbrev pub allHits : Levels → Quotes → AnchorHits → (ℕ → Bool) → List NMark
-allHits c q a stop = numberedHits q (a .buy) (a .price) stop 0 (barsIn c (a .buy) (a .bar) (drop (a .from) (c .bigs)))
+allHits c q a stop = numberedHits q (a .buy) (a .price) stop 0 (endBarsIn c (a .buy) (a .bar) (drop (a .from) (c .bigs)))
 
 abbrev pub HitRows : List (List ℕ) → List (List Float) → Quotes → AnchorHits → ℕ → List ℕ → List ℕ → ℕ → List ℕ → List ℕ → Type 0
 HitRows bars prices q a n keys orders r keys' orders' =

@@ -31,7 +31,8 @@ use Rattle.mark_hits.specs.declared.End.the-variants.{At, Over}
 use Rattle.mark_hits.specs.declared.Price.the-variants as price
 use Rattle.mark_hits.specs.declared.Side.{Side}
 use Rattle.mark_hits.specs.declared.Anchor.{Anchor}
-use Rattle.mark_hits.specs.Anchors.{endsIn, EndsBy, NextEnd, NoneBefore, FirstBehind, barsIn, Anchoring, priceOf, priceIn, anchorIn, AnchorAt, Anchors, PutsAnchor, AnchorsOf}
+use Rattle.mark_hits.specs.Anchors.{endsIn, EndsBy, NextEnd, NoneBefore, FirstBehind, endBarsIn, Anchoring, priceOf, priceIn, anchorIn}
+use Rattle.mark_hits.specs.Anchors.{AnchorAt, Anchors, PutsAnchor, AnchorsOf}
 use Rattle.mark_hits.proofs.Ends.{ends-over, ends-nowhere, ends-soon, no-point, point-stroke}
 
 -- ---- a place before which no big ends behind a bar
@@ -80,21 +81,22 @@ module _
 
 -- of the bigs from place k on
 module _ (c : Levels) (buy : Bool) (after k : ℕ) where
-  pub bars-none : (m : ℕ) (bars : List (List ℕ)) (prices : List (List Float)) → Bigs c m bars prices → m ≤ k → barsIn c buy after (drop k (c .bigs)) ≡ []
+  pub bars-none : (m : ℕ) (bars : List (List ℕ)) (prices : List (List Float)) → Bigs c m bars prices → m ≤ k → endBarsIn c buy after (drop k (c .bigs)) ≡ []
   bars-none m bars prices t h = ap (map (λ (s : Stroke). s .«end_bar»)) (ends-over m bars prices (not buy) after k c t _ refl h)
 
   module _ (end : End) (ends : EndsBy c (not buy) after k end) where
-    pub bars-over : end ≡ Over → barsIn c buy after (drop k (c .bigs)) ≡ []
+    pub bars-over : end ≡ Over → endBarsIn c buy after (drop k (c .bigs)) ≡ []
     bars-over e = ap (map (λ (s : Stroke). s .«end_bar»)) (subst (EndsBy c (not buy) after k) e ends)
 
     pub bars-next :
-        (next bar : ℕ) (x : Float) → end ≡ At next bar x → barsIn c buy after (drop k (c .bigs)) ≡ bar ∷ barsIn c buy after (drop next (c .bigs))
+        (next bar : ℕ) (x : Float) → end ≡ At next bar x → endBarsIn c buy after (drop k (c .bigs)) ≡ bar ∷ endBarsIn c buy after (drop next (c .bigs))
     bars-next next bar x e =
         let there = subst (EndsBy c (not buy) after k) e ends in
         rw (← there .1) (ap (map (λ (s : Stroke). s .«end_bar»)) (there .3))
 
 -- behind an anchor, by its row
-pub bars-behind : (c : Levels) (buy : Bool) (a : Stroke) (x : Anchor) → AnchorAt c buy a x → anchorBars c buy a ≡ barsIn c buy (x .bar) (drop (x .from) (c .bigs))
+pub bars-behind :
+    (c : Levels) (buy : Bool) (a : Stroke) (x : Anchor) → AnchorAt c buy a x → anchorBars c buy a ≡ endBarsIn c buy (x .bar) (drop (x .from) (c .bigs))
 unfolding anchorBars
 bars-behind c buy a x is = rw (is .behind (not buy), is .bar)
 
@@ -198,7 +200,8 @@ abbrev pub AnchorsFound : Side → List (List ℕ) → List (List Float) → Lis
 AnchorsFound s bars prices rows cs n last from i =
     (c : Levels) → Bigs c (s .bigs) bars prices → NoneBefore c last from × Anchors c (s .buy) (collect (lastStroke c) (take i (c .bigs))) n rows cs
 
-pub found-none : (s : Side) (bars : List (List ℕ)) (prices : List (List Float)) (rows : List (List ℕ)) (cs : List Float) → AnchorsFound s bars prices rows cs 0 0 0 0
+pub found-none :
+    (s : Side) (bars : List (List ℕ)) (prices : List (List Float)) (rows : List (List ℕ)) (cs : List Float) → AnchorsFound s bars prices rows cs 0 0 0 0
 found-none s bars prices rows cs c t = (none-first c 0, record { count = refl; are = λ i a e. absurd (none-some e) })
 
 module _

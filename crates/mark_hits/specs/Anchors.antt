@@ -55,8 +55,8 @@ FirstBehind m bars prices last place after r = (c : Levels) → Bigs c m bars pr
 -- ---- anchors
 
 -- the end bars of those of some bigs that a hit behind an anchor may have: not of the side's direction, and behind a bar
-abbrev pub barsIn : Levels → Bool → ℕ → List Triple → List ℕ
-barsIn c buy bar bs = map (λ (s : Stroke). s .«end_bar») (endsIn c (not buy) bar bs)
+abbrev pub endBarsIn : Levels → Bool → ℕ → List Triple → List ℕ
+endBarsIn c buy bar bs = map (λ (s : Stroke). s .«end_bar») (endsIn c (not buy) bar bs)
 
 -- the anchors of a side
 abbrev pub anchorsIn : Levels → Side → List Stroke

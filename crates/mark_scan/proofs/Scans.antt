@@ -109,7 +109,8 @@ module _
 
 -- ---- all zones
 
-module _ (n : Counts) (bars : List (List ℕ)) (prices : List (List Float)) (sups zb rows : List (List ℕ)) (i : ℕ) (done : ScannedTo n bars prices sups zb rows i) where
+module _ (n : Counts) (bars : List (List ℕ)) (prices : List (List Float)) (sups zb rows : List (List ℕ)) (i : ℕ)
+    (done : ScannedTo n bars prices sups zb rows i) where
   pub scans-next : (row : List ℕ) → i < length rows → ScanOf n bars prices sups zb i row → ScannedTo n bars prices sups zb (set rows i row) (i + 1)
   scans-next row k scan j h = go (eqb j i) refl
     where

@@ -27,7 +27,7 @@ use Rattle.mark_hits.proofs.Quotes.{side-short}
 use Rattle.mark_hits.specs.declared.Price.the-variants as price
 use Rattle.mark_hits.specs.declared.Anchor.{Anchor}
 use Rattle.mark_hits.specs.declared.Side.{Side}
-use Rattle.mark_hits.specs.Anchors.{barsIn, priceOf, AnchorAt, Anchoring}
+use Rattle.mark_hits.specs.Anchors.{endBarsIn, priceOf, AnchorAt, Anchoring}
 use Rattle.mark_hits.proofs.Anchors.{bars-behind}
 use Rattle.mark_thirds.specs.Third.{groundOf, OnBar, hitMarks, Marked, AnchorMarks}
 
@@ -62,7 +62,8 @@ module _
 
     pub third-at :
         (zone : Bool) → zone ≡ true → (hit : Hit)
-        → ((stop : ℕ → Bool) → Limits (s .limit) stop → find (beats q (isUp (s .direction)) edge) (pairEnds c stop (s .direction) (drop (s .from) (c .bigs))) ≡ hitBar hit)
+        → ((stop : ℕ → Bool) → Limits (s .limit) stop
+        → find (beats q (isUp (s .direction)) edge) (pairEnds c stop (s .direction) (drop (s .from) (c .bigs))) ≡ hitBar hit)
         → LentPrice q (isUp (s .direction)) hit → zoneThird c q zs z ≡ hitMarks zone (isUp (s .direction)) edge hit
     unfolding zoneThird
     third-at zone true-zone hit found w =
@@ -81,7 +82,7 @@ module _ (c : Levels) (q : Quotes) (buy : Bool) (a : Stroke) (x : Anchor) (at : 
 
   pub anchor-is :
       (p : Float) → x .price ≡ price.At p → (zone : Bool) → zone ≡ false → (h : Hit)
-      → find (beats q buy p) (barsIn c buy (x .bar) (drop (x .from) (c .bigs))) ≡ hitBar h → LentPrice q buy h
+      → find (beats q buy p) (endBarsIn c buy (x .bar) (drop (x .from) (c .bigs))) ≡ hitBar h → LentPrice q buy h
       → anchorThird c q buy a ≡ hitMarks zone buy p h
   unfolding anchorThird
   anchor-is p e zone no-zone h found w =

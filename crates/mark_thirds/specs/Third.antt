@@ -21,7 +21,7 @@ use Rattle.mark_hits.specs.declared.Hit.{Hit}
 use Rattle.mark_hits.specs.declared.Hit.the-variants.{At, Nothing}
 use Rattle.mark_hits.specs.Found.{hitBar}
 use Rattle.mark_hits.specs.declared.Side.{Side}
-use Rattle.mark_hits.specs.Anchors.{barsIn, anchorsIn}
+use Rattle.mark_hits.specs.Anchors.{endBarsIn, anchorsIn}
 use Rattle.mark_rows.specs.Rows.{barIn, sideIn}
 use Rattle.mark_thirds.specs.declared.Thirds.{Thirds}
 
@@ -86,7 +86,7 @@ ZoneHit m bars prices s p q r =
 abbrev pub AnchorHit : Side → List (List ℕ) → List (List Float) → ℕ → ℕ → Float → Quotes → Hit → Type 0
 AnchorHit s bars prices bar from p q r =
     (c : Levels) → Bigs c (s .bigs) bars prices
-    → find (beats q (s .buy) p) (barsIn c (s .buy) bar (drop from (c .bigs))) ≡ hitBar r
+    → find (beats q (s .buy) p) (endBarsIn c (s .buy) bar (drop from (c .bigs))) ≡ hitBar r
 
 -- where the first `found` are some marks, all of zones, the first r are those and the marks of the side's anchors
 abbrev pub AnchorMarks :

@@ -3,7 +3,9 @@
 use mathlib.Core.Path.{_≡_, refl, sym, ap, _∙_}
 use mathlib.Core.Logic.{_⊎_, inl, inr}
 use Prim.Native.Nat.{ℕ, zero, suc, _+_, _-_, _*_, _/_, _%_, _^_, _≤_, _<_}
-use native.Mathlib.Nat.{le-of-eq, le-trans, le-of-suc-le-suc, eq-or-lt-of-le, lt-of-not-le, not-le-of-lt, mul-one, one-mul, zero-mul, mul-comm, mul-assoc, mul-right-comm, mul-pos, add-mul, mul-lt-mul-of-pos-right, lt-of-mul-lt-mul-right, eq-of-mul-eq-mul-right, mul-div-cancel}
+use native.Mathlib.Nat.{le-of-eq, le-trans, le-of-suc-le-suc, eq-or-lt-of-le, lt-of-not-le, not-le-of-lt, mul-one, one-mul, zero-mul, mul-comm}
+use native.Mathlib.Nat.{mul-assoc, mul-right-comm, mul-pos, add-mul, mul-lt-mul-of-pos-right, lt-of-mul-lt-mul-right, eq-of-mul-eq-mul-right}
+use native.Mathlib.Nat.{mul-div-cancel}
 use native.Mathlib.Omega.{arith}
 use mathlib.Core.Bool.{Bool, true, false, not, _&&_, _||_, cond}
 use lib.IntN.{ℤ, pos, negsuc}
@@ -80,8 +82,10 @@ place-lt c true a true b h k = same (ltb b a) (ltb (c - a) (c - b)) (λ u. omega
 
 place-eq : (c : ℕ) (s : Bool) (a : ℕ) (t : Bool) (b : ℕ) → a < c → b < c → level s a t b ≡ eqb (place c s a) (place c t b)
 unfolding place
-place-eq c false a false b h k = same (eqb a b && true) (eqb (c + a) (c + b)) (λ u. let v = eqb→eq a b (and-l (eqb a b) true u) in omega tests) (λ u. and-i (eqb a b) true (omega tests) tt)
-place-eq c true a true b h k = same (eqb a b && true) (eqb (c - a) (c - b)) (λ u. let v = eqb→eq a b (and-l (eqb a b) true u) in omega tests) (λ u. and-i (eqb a b) true (omega tests) tt)
+place-eq c false a false b h k = same (eqb a b && true) (eqb (c + a) (c + b)) (λ u. let v = eqb→eq a b (and-l (eqb a b) true u) in omega tests)
+    (λ u. and-i (eqb a b) true (omega tests) tt)
+place-eq c true a true b h k = same (eqb a b && true) (eqb (c - a) (c - b)) (λ u. let v = eqb→eq a b (and-l (eqb a b) true u) in omega tests)
+    (λ u. and-i (eqb a b) true (omega tests) tt)
 place-eq c false a true b h k =
     same (eqb a b && eqb a 0) (eqb (c + a) (c - b))
     (λ u. let v = eqb→eq a b (and-l (eqb a b) (eqb a 0) u) in let w = eqb→eq a 0 (and-r (eqb a b) (eqb a 0) u) in omega tests)
@@ -161,7 +165,8 @@ small f s (suc m) e h =
 
 -- ---- m * up e * p = m * scale * down e
 mag-is : (f : Format) (s : Bool) (m : ℕ) (e : ℤ) → T (fits f (fin s m e)) → m * up e * 2 ^ low f ≡ m * scale (low f) e * down e
-mag-is f s m e h = mul-assoc m (up e) (2 ^ low f) ∙ ap (λ (z : ℕ). m * z) (sym (scale-is (low f) e (deep f s m e h))) ∙ sym (mul-assoc m (scale (low f) e) (down e))
+mag-is f s m e h = mul-assoc m (up e) (2 ^ low f) ∙ ap (λ (z : ℕ). m * z) (sym (scale-is (low f) e (deep f s m e h)))
+    ∙ sym (mul-assoc m (scale (low f) e) (down e))
 
 mag-lt : (f : Format) (s : Bool) (m : ℕ) (e : ℤ) → T (fits f (fin s m e)) → m * scale (low f) e < mid f
 unfolding mid
@@ -199,7 +204,8 @@ keyOf-eq f =
     ∙ place-eq (mid f) s (m * scale (low f) e) t (n * scale (low f) d) (mag-lt f s m e h) (mag-lt f t n d k))
 
 or-leb : (a b : ℕ) → (ltb a b || eqb a b) ≡ leb a b
-or-leb a b = same (ltb a b || eqb a b) (leb a b) (λ u. le→leb a b (elim (or-split (ltb a b) (eqb a b) u) [ inl v ↦ omega tests | inr v ↦ omega tests ])) (λ u. go (eq-or-lt-of-le (leb→le a b u)))
+or-leb a b = same (ltb a b || eqb a b) (leb a b) (λ u. le→leb a b (elim (or-split (ltb a b) (eqb a b) u) [ inl v ↦ omega tests | inr v ↦ omega tests ]))
+    (λ u. go (eq-or-lt-of-le (leb→le a b u)))
   where
     go : (a ≡ b) ⊎ (a < b) → T (ltb a b || eqb a b)
     go (inl e) = or-r (ltb a b) (eqb a b) (eq→eqb e)
@@ -211,7 +217,9 @@ keyOf-le f x y p q h k = rw (keyOf-lt f x y p q h k, keyOf-eq f x y p q h k) (or
 
 -- ---- two values of one key are one value, but for the two zeros
 
-bits-by-mag : (f : Format) (s : Bool) (m n : ℕ) (e d : ℤ) → T (fits f (fin s m e)) → T (fits f (fin s n d)) → m * scale (low f) e ≡ n * scale (low f) d → toBits f (fin s m e) ≡ toBits f (fin s n d)
+bits-by-mag :
+    (f : Format) (s : Bool) (m n : ℕ) (e d : ℤ) → T (fits f (fin s m e)) → T (fits f (fin s n d)) → m * scale (low f) e ≡ n * scale (low f) d
+    → toBits f (fin s m e) ≡ toBits f (fin s n d)
 unfolding toBits
 bits-by-mag f s m n e d h k g =
     ap (λ (z : ℕ). cond s (top f) 0 + (size z - prec f) * hid f + z / 2 ^ (size z - prec f)) (quot f s m e h ∙ g ∙ sym (quot f s n d k))

@@ -10,7 +10,7 @@ use Rattle.chart.specs.declared.Zone.{Zone}
 use Rattle.rules.specs.Answer.{refused, given, rowsAnswer}
 use Rattle.rules.specs.Records.{Levels, levelsOf}
 use Rattle.rules.specs.Zones.{overlapZones}
-use Rattle.rules.specs.Machine.{Machine, addStroke, addSuperior, lengthen, withdraw, deriveBigs, deriveSuperiors, refusal, run}
+use Rattle.rules.specs.Machine.{addStroke, addSuperior, lengthen, withdraw, deriveBigs, deriveSuperiors, refusal, run}
 use Rattle.rules.specs.Live.{liveRefusal}
 use Rattle.rules.specs.Refusals.{badChart, brokenLevels, sameZones, badLive}
 use Rattle.rules.specs.Calls.{segmentClassesCall}

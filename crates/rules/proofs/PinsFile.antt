@@ -6,7 +6,7 @@ use mathlib.Core.List.{List, [], _∷_, _++_}
 use lib.Ieee.{Float, binary64, ofBits}
 use Rattle.price.specs.Bytes.{bytesOf}
 use Rattle.rules.specs.Answer.{AnswerBy, NumberAt, given}
-use Rattle.rules.specs.Records.{Levels, Quotes}
+use Rattle.rules.specs.Records.{Levels}
 use Rattle.rules.specs.Text.{ascii, marksText}
 use Rattle.rules.specs.File.{stroke, segment, big, superior, bar, recordBytes, Content, readFile, written}
 use Rattle.rules.proofs.Computing.{everything}

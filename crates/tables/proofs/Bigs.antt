@@ -44,8 +44,10 @@ module _ (k way there : ℕ) (range : Range) (e : Stroke) (bars : List (List ℕ
 
 -- one more
 pub bigs-more :
-    (c : Levels) (k : ℕ) (bigs : List Triple) (bars : List (List ℕ)) (prices : List (List Float)) (bars' : List (List ℕ)) (prices' : List (List Float)) (way : ℕ) (range : Range) (point : EndPoint)
-    → k < length bigs → getD bigs k no-triple .direction ≡ way → range ≡ rangeOf c (getD bigs k no-triple) → point ≡ pointOf (lastStroke c (getD bigs k no-triple))
+    (c : Levels) (k : ℕ) (bigs : List Triple) (bars : List (List ℕ)) (prices : List (List Float)) (bars' : List (List ℕ)) (prices' : List (List Float))
+    (way : ℕ) (range : Range) (point : EndPoint)
+    → k < length bigs → getD bigs k no-triple .direction ≡ way → range ≡ rangeOf c (getD bigs k no-triple)
+    → point ≡ pointOf (lastStroke c (getD bigs k no-triple))
     → rowsIn bigIn k bars prices ≡ map (bigOf c) (take k bigs) → PutsBig k way range point bars prices bars' prices'
     → rowsIn bigIn (k + 1) bars' prices' ≡ map (bigOf c) (take (k + 1) bigs)
 unfolding bigOf

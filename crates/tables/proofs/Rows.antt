@@ -6,17 +6,19 @@ use mathlib.Core.Path.{_≡_, refl, sym, ap, _∙_}
 use mathlib.Core.List.{List, [], _∷_, _++_, map}
 use lib.ListN.{length, getD, set, length-set, length-map}
 use Rattle.laws.proofs.Lists.{map-at, at-getD, lt-at}
-use Rattle.tables.specs.Rows.{Wide, rowsIn, Puts}
+use Rattle.tables.specs.Rows.{Wide, rowsIn, PutsRow}
 
 module _ {X Y A : Type 0} (f : X → Y → A) where
-  rows-more : (n : ℕ) (xs : List X) (ys : List Y) (x : X) (y : Y) → n < length xs → n < length ys → rowsIn f (suc n) (set xs n x) (set ys n y) ≡ rowsIn f n xs ys ++ f x y ∷ []
+  rows-more :
+      (n : ℕ) (xs : List X) (ys : List Y) (x : X) (y : Y) → n < length xs → n < length ys
+      → rowsIn f (suc n) (set xs n x) (set ys n y) ≡ rowsIn f n xs ys ++ f x y ∷ []
   rows-more n [] ys x y h k = absurd (omega arith)
   rows-more n (a ∷ xs) [] x y h k = absurd (omega arith)
   rows-more zero (a ∷ xs) (b ∷ ys) x y h k = refl
   rows-more (suc n) (a ∷ xs) (b ∷ ys) x y h k = ap (λ (l : List A). f a b ∷ l) (rows-more n xs ys x y (omega arith) (omega arith))
 
   -- a record goes into the next row
-  pub puts : (n : ℕ) (a : A) (xs : List X) (ys : List Y) (x : X) (y : Y) → n < 256 → Wide xs ys → f x y ≡ a → Puts f n a xs ys (set xs n x) (set ys n y)
+  pub puts : (n : ℕ) (a : A) (xs : List X) (ys : List Y) (x : X) (y : Y) → n < 256 → Wide xs ys → f x y ≡ a → PutsRow f n a xs ys (set xs n x) (set ys n y)
   puts n a xs ys x y h w e =
       record {
         wide = (length-set xs n x ∙ w .0, length-set ys n y ∙ w .1);
@@ -24,7 +26,9 @@ module _ {X Y A : Type 0} (f : X → Y → A) where
       }
 
   -- what stands in row i
-  pub row-at : (n i : ℕ) (xs : List X) (ys : List Y) (d : A) (x : X) (y : Y) → i < length (rowsIn f n xs ys) → getD (rowsIn f n xs ys) i d ≡ f (getD xs i x) (getD ys i y)
+  pub row-at :
+      (n i : ℕ) (xs : List X) (ys : List Y) (d : A) (x : X) (y : Y) → i < length (rowsIn f n xs ys)
+      → getD (rowsIn f n xs ys) i d ≡ f (getD xs i x) (getD ys i y)
   row-at zero i xs ys d x y h = absurd (omega arith)
   row-at (suc n) i [] ys d x y h = absurd (omega arith)
   row-at (suc n) i (a ∷ xs) [] d x y h = absurd (omega arith)

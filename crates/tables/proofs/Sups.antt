@@ -21,7 +21,7 @@ use Rattle.rules.specs.Marks.{superiorEnd}
 use Rattle.laws.proofs.Arrays.{at-out}
 use Rattle.laws.proofs.Lists.{map-append, map-at, at-getD, lt-at}
 use Rattle.levels.proofs.Read.{no-triple}
-use Rattle.tables.specs.Tables.{pointIn, Bigs, Superior, barOf, supOf, tripleIn, endIn, supIn, Owners, Sups}
+use Rattle.tables.specs.Tables.{pointIn, Bigs, Superior, barOf, supOf, ownerIn, endIn, supIn, Owners, Sups}
 use Rattle.tables.proofs.Bigs.{point-is}
 
 -- ---- one row
@@ -104,12 +104,13 @@ sups-owners c n sups t =
     }
 
 -- what the table says of owner i
-pub owner-is : (owners : List Triple) (n : ℕ) (sups : List (List ℕ)) → Owners owners n sups → (i : ℕ) → i < n → tripleIn (getD sups i []) ≡ getD owners i no-triple
+pub owner-is :
+    (owners : List Triple) (n : ℕ) (sups : List (List ℕ)) → Owners owners n sups → (i : ℕ) → i < n → ownerIn (getD sups i []) ≡ getD owners i no-triple
 owner-is owners n sups t i h =
-    let long = sym (length-map (take n sups) tripleIn) ∙ ap (λ (l : List Triple). length l) (t .are) ∙ t .count in
+    let long = sym (length-map (take n sups) ownerIn) ∙ ap (λ (l : List Triple). length l) (t .are) ∙ t .count in
     let row = lt-at (take n sups) i (omega (arith, long)) in
-    ap tripleIn (sym (getD-take n sups i [] h) ∙ at-getD (take n sups) i [] (row .0) (row .1))
-    ∙ sym (at-getD (map tripleIn (take n sups)) i no-triple (tripleIn (row .0)) (map-at tripleIn (take n sups) i (row .0) (row .1)))
+    ap ownerIn (sym (getD-take n sups i [] h) ∙ at-getD (take n sups) i [] (row .0) (row .1))
+    ∙ sym (at-getD (map ownerIn (take n sups)) i no-triple (ownerIn (row .0)) (map-at ownerIn (take n sups) i (row .0) (row .1)))
     ∙ ap (λ (l : List Triple). getD l i no-triple) (t .are)
 
 -- what the table says of superior i
@@ -126,7 +127,7 @@ module _ (c : Levels) (n : ℕ) (sups : List (List ℕ)) (t : Sups c n sups) (i 
       ∙ at-getD (map (supOf c) (c .superiors)) i (supOf c b) (supOf c b) (map-at (supOf c) (c .superiors) i b (there .1))
       ∙ ap (supOf c) (sym (at-getD (c .superiors) i no-triple b (there .1)))
 
-  pub triple-is : tripleIn (getD sups i []) ≡ getD (c .superiors) i no-triple
+  pub triple-is : ownerIn (getD sups i []) ≡ getD (c .superiors) i no-triple
   triple-is = owner-is (c .superiors) n sups (sups-owners c n sups t) i h
 
   pub end-is : endIn (getD sups i []) ≡ barOf (superiorEnd c (getD (c .superiors) i no-triple))

@@ -20,7 +20,7 @@ use Rattle.rules.specs.Ranges.{rangeOf, lastStroke}
 use Rattle.rules.specs.Zones.{overlapZones}
 use Rattle.rules.specs.Marks.{superiorEnd}
 use Rattle.tables.specs.declared.Counts.{Counts}
-use Rattle.tables.specs.Rows.{rowsIn, Puts}
+use Rattle.tables.specs.Rows.{rowsIn, PutsRow}
 
 -- ---- bigs
 
@@ -74,7 +74,7 @@ pointIf there e = cond (eqb there 0) Nowhere (At (e .«end_bar») (e .«end_pric
 
 -- a big of this direction, range and end point has gone into row k
 abbrev pub PutsBig : ℕ → ℕ → Range → EndPoint → List (List ℕ) → List (List Float) → List (List ℕ) → List (List Float) → Type 0
-PutsBig k way range point = Puts bigIn k (record { way = way; range = range; point = point })
+PutsBig k way range point = PutsRow bigIn k (record { way = way; range = range; point = point })
 
 -- ---- superiors
 
@@ -92,19 +92,19 @@ unfoldable pub supOf : Levels → Triple → Superior
 supOf c s = record { triple = s; end = barOf (superiorEnd c s) }
 
 -- a row: direction, first, last; whether it has an end bar, and that
-abbrev pub tripleIn : List ℕ → Triple
-tripleIn row = record { direction = getD row 0 0; first = getD row 1 0; last = getD row 2 0 }
+abbrev pub ownerIn : List ℕ → Triple
+ownerIn row = record { direction = getD row 0 0; first = getD row 1 0; last = getD row 2 0 }
 
 unfoldable pub endIn : List ℕ → Option ℕ
 endIn row = cond (eqb (getD row 3 0) 0) none (some (getD row 4 0))
 
 unfoldable pub supIn : List ℕ → Superior
-supIn row = record { triple = tripleIn row; end = endIn row }
+supIn row = record { triple = ownerIn row; end = endIn row }
 
 -- the first n rows have these owners
 pub record Owners (owners : List Triple) (n : ℕ) (sups : List (List ℕ)) : Type 0 where
   pub count : length owners ≡ n
-  pub are : map tripleIn (take n sups) ≡ owners
+  pub are : map ownerIn (take n sups) ≡ owners
 
 -- the first n rows are the superiors of these levels
 pub record Sups (c : Levels) (n : ℕ) (sups : List (List ℕ)) : Type 0 where

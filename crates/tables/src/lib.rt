@@ -21,7 +21,7 @@ ghost use Rattle.chart.specs.Table.{pointOf};
 ghost use Rattle.rules.specs.Records.{Levels, levelsOf};
 ghost use Rattle.rules.specs.Refusals.{badChart};
 ghost use Rattle.levels.specs.Read.{strokeIf};
-ghost use Rattle.tables.specs.Rows.{Wide, Puts};
+ghost use Rattle.tables.specs.Rows.{Wide, PutsRow};
 ghost use Rattle.tables.specs.Tables.{rangeIn, pointIn, pointIf, Bigs, PutsBig, SupRow, FillsSups, zoneIn};
 
 // How many rows of the tables of a chart count: bigs, superiors, zones.
@@ -227,7 +227,7 @@ pub fn put_zone(
     zone_prices: &mut [[f64; 4]; 256],
 )
     requires { ⌜ (at < 256) × Wide (now «zone_bars») (now «zone_prices») ⌝ }
-    ensures { λ _. ⌜ Puts zoneIn at zone (now («zone_bars» .entry)) (now («zone_prices» .entry)) (now («zone_bars» .exit)) (now («zone_prices» .exit)) ⌝ }
+    ensures { λ _. ⌜ PutsRow zoneIn at zone (now («zone_bars» .entry)) (now («zone_prices» .entry)) (now («zone_bars» .exit)) (now («zone_prices» .exit)) ⌝ }
 {
     zone_bars[at] = [
         zone.sup_idx,

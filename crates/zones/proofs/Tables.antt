@@ -17,14 +17,15 @@ use Rattle.rules.specs.Answer.{given, rowsAnswer}
 use Rattle.rules.specs.Zones.{Member, opposing, begin, joins, join, cut, runs, zonesOf, zonesFrom}
 use Rattle.laws.proofs.Answers.{given-rows}
 use Rattle.levels.proofs.Read.{no-triple}
-use Rattle.tables.specs.Rows.{Wide, Puts}
-use Rattle.tables.specs.Tables.{rangeIn, Members, Owners, tripleIn, zoneIn, zonesIn}
+use Rattle.tables.specs.Rows.{Wide, PutsRow}
+use Rattle.tables.specs.Tables.{rangeIn, Members, Owners, ownerIn, zoneIn, zonesIn}
 use Rattle.tables.proofs.Rows.{rows-length, rows-next}
 use Rattle.tables.proofs.Bigs.{member-way, member-range}
 use Rattle.tables.proofs.Sups.{owner-is}
 use Rattle.zones.specs.Runs.{runsFrom, Takes}
 use Rattle.zones.specs.Filled.{Filled, OwnerZones, AllZones}
-use Rattle.zones.proofs.Laws.{join-members, scan-begins, scan-joins, scan-closes, one-same, one-missing, one-found, still, still-more, still-none, skips, scans, from, from-more, from-none}
+use Rattle.zones.proofs.Laws.{join-members, scan-begins, scan-joins, scan-closes, one-same, one-missing, one-found, still, still-more}
+use Rattle.zones.proofs.Laws.{still-none, skips, scans, from, from-more, from-none}
 
 -- ---- a member is taken
 module _ (h : ℕ) (z : Zone) (b : Bool) (j : ℕ) (s : Span) (y : Zone) where
@@ -54,7 +55,7 @@ module _ (count : ℕ) (zb : List (List ℕ)) (zp : List (List Float)) (wide : W
 
   -- one is put
   pub put-on :
-      (z : Zone) (rest : List Zone) (zb' : List (List ℕ)) (zp' : List (List Float)) → Puts zoneIn count z zb zp zb' zp'
+      (z : Zone) (rest : List Zone) (zb' : List (List ℕ)) (zp' : List (List Float)) → PutsRow zoneIn count z zb zp zb' zp'
       → zonesIn count zb zp ++ z ∷ rest ≡ all → zonesIn (count + 1) zb' zp' ++ rest ≡ all
   put-on z rest zb' zp' put e = rw (put .are) (append-assoc (zonesIn count zb zp) (z ∷ []) rest ∙ e)
 
@@ -127,7 +128,9 @@ module _ (h d first last : ℕ) (bars : List (List ℕ)) (prices : List (List Fl
       module _
           (opposes : getD (getD bars i []) 0 0 ≡ d → ⊥) (s : Span) (found : rangeIn (getD bars i []) (getD prices i []) ≡ Found s) (closed : Bool) (y : Zone)
           (took : (y .members ≤ z .members + 1) × Takes h b z (record { index = i; span = s }) closed y) where
-        onward : (t : Bool) → closed ≡ t → Each (λ range level. zonesIn count zb zp ++ (cond t (z ∷ []) [] ++ runsFrom h true y (left-of range level (i + 1))) ≡ goal range level)
+        onward :
+            (t : Bool) → closed ≡ t → Each (λ range level. zonesIn count zb zp ++ (cond t (z ∷ []) [] ++ runsFrom h true y (left-of range level (i + 1)))
+            ≡ goal range level)
         onward t f range level m inside bigs =
             let way = member-way range level m bars prices bigs i (omega arith) in
             let here =
@@ -140,17 +143,21 @@ module _ (h d first last : ℕ) (bars : List (List ℕ)) (prices : List (List Fl
         pub goes-on : closed ≡ false → Scanning count zb zp true y (i + 1)
         goes-on f = record { few = now .few; wide = now .wide; short = omega (arith, took .0, now .short); left = onward false f }
 
-        pub puts-one : (zb' : List (List ℕ)) (zp' : List (List Float)) → closed ≡ true → (count ≡ 256 → ⊥) → Puts zoneIn count z zb zp zb' zp' → Scanning (count + 1) zb' zp' true y (i + 1)
+        pub puts-one :
+            (zb' : List (List ℕ)) (zp' : List (List Float)) → closed ≡ true → (count ≡ 256 → ⊥) → PutsRow zoneIn count z zb zp zb' zp'
+            → Scanning (count + 1) zb' zp' true y (i + 1)
         puts-one zb' zp' f room put =
             record {
               few = omega (arith, now .few);
               wide = put .wide;
               short = omega (arith, took .0, now .short);
-              left = λ range level m inside t. put-on count zb zp (now .wide) (goal range level) z (runsFrom h true y (left-of range level (i + 1))) zb' zp' put (onward true f range level m inside t);
+              left = λ range level m inside t. put-on count zb zp (now .wide) (goal range level) z
+                  (runsFrom h true y (left-of range level (i + 1))) zb' zp' put (onward true f range level m inside t);
             }
 
         pub no-room : closed ≡ true → count ≡ 256 → Gives 257 zb zp
-        no-room f p range level m inside t = too-many count zb zp (now .wide) (goal range level) z (runsFrom h true y (left-of range level (i + 1))) p (onward true f range level m inside t)
+        no-room f p range level m inside t = too-many count zb zp (now .wide) (goal range level) z (runsFrom h true y (left-of range level (i + 1))) p
+            (onward true f range level m inside t)
 
     -- the records are through: a run that is under way is a zone
     module _ (done : last < i) where
@@ -164,10 +171,11 @@ module _ (h d first last : ℕ) (bars : List (List ℕ)) (prices : List (List Fl
       ends-zone f range level m inside t = rw (still-none range level d last i done, f) at (now .left range level m inside t)
 
       pub ends-puts :
-          (zb' : List (List ℕ)) (zp' : List (List Float)) → b ≡ true → (count ≡ 256 → ⊥) → Puts zoneIn count z zb zp zb' zp'
+          (zb' : List (List ℕ)) (zp' : List (List Float)) → b ≡ true → (count ≡ 256 → ⊥) → PutsRow zoneIn count z zb zp zb' zp'
           → Gives (count + 1) zb' zp'
       ends-puts zb' zp' f room put range level m inside t =
-          all-put (count + 1) zb' zp' (put .wide) (goal range level) (omega (arith, now .few)) (put-on count zb zp (now .wide) (goal range level) z [] zb' zp' put (ends-zone f range level m inside t))
+          all-put (count + 1) zb' zp' (put .wide) (goal range level) (omega (arith, now .few))
+          (put-on count zb zp (now .wide) (goal range level) z [] zb' zp' put (ends-zone f range level m inside t))
 
       pub ends-full : b ≡ true → count ≡ 256 → Gives 257 zb zp
       ends-full f p range level m inside t = too-many count zb zp (now .wide) (goal range level) z [] p (ends-zone f range level m inside t)
@@ -203,7 +211,7 @@ module _ (n m : ℕ) (sups bars : List (List ℕ)) (prices : List (List Float)) 
     -- an owner is skipped, or its zones are put, if there is room
     module _ (more : h < n) where
       abbrev this : Triple
-      this = tripleIn (getD sups h [])
+      this = ownerIn (getD sups h [])
 
       abbrev own : (Triple → Range) → List Triple → List Zone
       own range level = zonesOf range level h this
@@ -222,12 +230,18 @@ module _ (n m : ℕ) (sups bars : List (List ℕ)) (prices : List (List Float)) 
             left = λ range level owners t o. rw (skips range level h this (omega (arith, t .count))) at (stepped range level owners t o);
           }
 
-      module _ (inside : this .last < m) (r : ℕ) (zb' : List (List ℕ)) (zp' : List (List Float)) (gives : OwnerZones h (getD sups h []) bars prices count zb zp r zb' zp') where
+      module _ (inside : this .last < m) (r : ℕ) (zb' : List (List ℕ)) (zp' : List (List Float))
+          (gives : OwnerZones h (getD sups h []) bars prices count zb zp r zb' zp') where
         whole : Level (λ range level owners. (zonesIn count zb zp ++ own range level) ++ later range level owners (h + 1) ≡ zonesFrom range level 0 owners)
         whole range level owners t o = append-assoc (zonesIn count zb zp) (own range level) (later range level owners (h + 1)) ∙ stepped range level owners t o
 
         pub owner-puts : r ≤ 256 → Wide zb' zp' → Between r zb' zp' (h + 1)
-        owner-puts p wide = record { some-left = omega arith; few = p; wide = wide; left = λ range level owners t o. rw (gives range level m inside t .few p .are) (whole range level owners t o) }
+        owner-puts p wide = record {
+          some-left = omega arith;
+          few = p;
+          wide = wide;
+          left = λ range level owners t o. rw (gives range level m inside t .few p .are) (whole range level owners t o);
+        }
 
         pub owner-full : r ≡ 257 → AllZones n sups m bars prices 257 zb' zp'
         owner-full p range level owners t o =

@@ -12,7 +12,7 @@ use Rattle.chart.specs.declared.Chart.{Chart}
 use Rattle.rules.specs.Records.{levelsOf}
 use Rattle.rules.specs.Zones.{zonesOf, zonesFrom}
 use Rattle.rules.specs.Refusals.{badChart, zonesRefusal}
-use Rattle.tables.specs.Tables.{Members, Owners, tripleIn, zonesIn, Zoned}
+use Rattle.tables.specs.Tables.{Members, Owners, ownerIn, zonesIn, Zoned}
 
 -- the first r rows are these zones, or r is above 256 and so is their number
 pub record Filled (r : ℕ) (zb : List (List ℕ)) (zp : List (List Float)) (zs : List Zone) : Type 0 where
@@ -23,8 +23,8 @@ pub record Filled (r : ℕ) (zb : List (List ℕ)) (zp : List (List Float)) (zs 
 abbrev pub OwnerZones :
     ℕ → List ℕ → List (List ℕ) → List (List Float) → ℕ → List (List ℕ) → List (List Float) → ℕ → List (List ℕ) → List (List Float) → Type 0
 OwnerZones h owner bars prices from zb zp r zb' zp' =
-    (range : Triple → Range) (level : List Triple) (m : ℕ) → tripleIn owner .last < m → Members range level m bars prices
-    → Filled r zb' zp' (zonesIn from zb zp ++ zonesOf range level h (tripleIn owner))
+    (range : Triple → Range) (level : List Triple) (m : ℕ) → ownerIn owner .last < m → Members range level m bars prices
+    → Filled r zb' zp' (zonesIn from zb zp ++ zonesOf range level h (ownerIn owner))
 
 -- the zones of the n owners over the level of m records in tables
 abbrev pub AllZones : ℕ → List (List ℕ) → ℕ → List (List ℕ) → List (List Float) → ℕ → List (List ℕ) → List (List Float) → Type 0

@@ -15,7 +15,7 @@ ghost use Rattle.rules.specs.Records.{levelsOf};
 ghost use Rattle.rules.specs.Zones.{begin, joins, join};
 ghost use Rattle.rules.specs.Calls.{zonesCall};
 ghost use Rattle.tables.specs.Rows.{Wide};
-ghost use Rattle.tables.specs.Tables.{tripleIn, zonesIn, Tables};
+ghost use Rattle.tables.specs.Tables.{ownerIn, zonesIn, Tables};
 ghost use Rattle.zones.specs.Runs.{Takes};
 ghost use Rattle.zones.specs.Filled.{OwnerZones, AllZones, callNumber};
 
@@ -112,7 +112,7 @@ fn owner_zones(
     zb: &mut [[u16; 5]; 256],
     zp: &mut [[f64; 4]; 256],
 ) -> usize
-    requires { ⌜ (k ≤ 256) × (tripleIn row .last < 256) × Wide (now zb) (now zp) ⌝ }
+    requires { ⌜ (k ≤ 256) × (ownerIn row .last < 256) × Wide (now zb) (now zp) ⌝ }
     ensures { λ r. ⌜ (r ≤ 257) × Wide (now (zb .exit)) (now (zp .exit)) ⌝ }
     ensures { λ r. ⌜ OwnerZones h row (now (bars .entry)) (now (prices .entry)) k (now (zb .entry)) (now (zp .entry)) r (now (zb .exit)) (now (zp .exit)) ⌝ }
 {

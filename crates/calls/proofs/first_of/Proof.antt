@@ -21,15 +21,35 @@ returns-4 c = rw (c .before .before .before .if1 .left, c .before .before .if2 .
 
 returns-5 : tie.Need-returns-5
 unfolding refuse
-returns-5 c = rw (c .before .before .before .before .if1 .left, c .before .before .before .if2 .left, c .before .before .if3 .left, c .before .if4 .left, c .if5 .taken)
+returns-5 c = rw (
+  c .before .before .before .before .if1 .left,
+  c .before .before .before .if2 .left,
+  c .before .before .if3 .left,
+  c .before .if4 .left,
+  c .if5 .taken,
+)
 
 returns-6 : tie.Need-returns-6
 unfolding refuse
-returns-6 c = rw (c .before .before .before .before .before .if1 .left, c .before .before .before .before .if2 .left, c .before .before .before .if3 .left, c .before .before .if4 .left, c .before .if5 .left, c .if6 .taken)
+returns-6 c = rw (
+  c .before .before .before .before .before .if1 .left,
+  c .before .before .before .before .if2 .left,
+  c .before .before .before .if3 .left,
+  c .before .before .if4 .left,
+  c .before .if5 .left,
+  c .if6 .taken,
+)
 
 returns-7 : tie.Need-returns-7
 unfolding refuse
-returns-7 c = rw (c .before .before .before .before .before .if1 .left, c .before .before .before .before .if2 .left, c .before .before .before .if3 .left, c .before .before .if4 .left, c .before .if5 .left, c .if6 .left)
+returns-7 c = rw (
+  c .before .before .before .before .before .if1 .left,
+  c .before .before .before .before .if2 .left,
+  c .before .before .before .if3 .left,
+  c .before .before .if4 .left,
+  c .before .if5 .left,
+  c .if6 .left,
+)
 
 pub first-of-spec : {M : Type 1} → statement M
 first-of-spec =

@@ -95,7 +95,8 @@ loop-again c =
       simp length-set (inv .3),
       simp length-set (inv .4),
       inv .5,
-      rw (item-more (got .directions) (got .starts) (got .ends) (head t .loop .k) _ _ _ (omega (arith, inv .2, turn)) (omega (arith, inv .3, turn)) (omega (arith, inv .4, turn)))
+      rw (item-more (got .directions) (got .starts) (got .ends) (head t .loop .k) _ _ _ (omega (arith, inv .2, turn)) (omega (arith, inv .3, turn))
+          (omega (arith, inv .4, turn)))
           (gathering-there _ _ _ _ (inv .6) _ (there t) _ (sym (read at-read) ∙ ap readOf (c .before .read .given .1))),
     )
 
@@ -105,7 +106,8 @@ returns-2 c =
     let s = start top in
     let size = level-length (s .args .t1) (long s) (s .pre) (s .args .bigs) in
     let n = top .before .before .chosen-count .ensures in
-    let all : top .loop .k ≡ cond (s .args .bigs) (s .args .t1 .«big_count») (s .args .t1 .«segment_count») = omega (arith, n, top .loop .inv .1, c .loop-test .left) in
+    let all : top .loop .k ≡ cond (s .args .bigs) (s .args .t1 .«big_count») (s .args .t1 .«segment_count») = omega
+    (arith, n, top .loop .inv .1, c .loop-test .left) in
     rw all at (gathering-all _ _ _ _ (top .loop .inv .6) (omega (arith, size, all)))
 
 pub items-of-spec : {M : Type 1} → statement M

@@ -1,4 +1,5 @@
--- `first_marks::marks_of` meets its contract. The invariant: the rows, and the marks of the classes that are left put into them, are the marks of all. Assumes nothing.
+-- `first_marks::marks_of` meets its contract. The invariant: the rows, and the marks of the classes that are left put into them, are the marks of
+-- all. Assumes nothing.
 use Prim.Native.Nat.{ℕ, _+_, _≤_, _-_}
 use native.Mathlib.Omega.{arith}
 use mathlib.Core.Path.{_≡_, refl, ap, sym, _∙_}
@@ -17,7 +18,8 @@ use Rattle.laws.proofs.Arrays.{length-via}
 use Rattle.classes.proofs.Extended.{no-class}
 use Rattle.first_marks.specs.Placed.{Placed, barsOf}
 use Rattle.first_marks.proofs.Insertion.{insert-rises}
-use Rattle.first_marks.proofs.Neighbours.{Reads, reads-first, reads-last, stands-at, first-unfit, first-short, first-beyond, marks-none, marks-some, marks-all}
+use Rattle.first_marks.proofs.Neighbours.{Reads, reads-first, reads-last, stands-at, first-unfit, first-short, first-beyond, marks-none}
+use Rattle.first_marks.proofs.Neighbours.{marks-some, marks-all}
 use borrow.Author.Tests.{not-true, not-false}
 use borrow.Author.Needs.{needs}
 use Rattle.first_marks.proofs.marks_of.Statement.{statement}

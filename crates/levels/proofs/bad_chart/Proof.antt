@@ -1,4 +1,5 @@
--- `levels::bad_chart` meets its contract. The invariants: what is left of the strokes has the chart's answer; in the first loop, where those so far passed. Assumes nothing.
+-- `levels::bad_chart` meets its contract. The invariants: what is left of the strokes has the chart's answer; in the first loop, where those so far
+-- passed. Assumes nothing.
 use Prim.Native.Nat.{_≤_, _<_, _-_}
 use native.Mathlib.Omega.{arith}
 use mathlib.Core.Path.{_≡_, sym, _∙_}

@@ -14,19 +14,22 @@ returns : tie.Need-returns
 returns c =
     let found = c .before .before in
     let at-key = found .before .before in
-    bar-first _ _ _ _ _ _ _ _ _ (long (at-key .before .before .before)) (at-key .key-of .ensures) (found .place-of .ensures .1) (c .before .if1 .taken) (c .if2 .taken)
+    bar-first _ _ _ _ _ _ _ _ _ (long (at-key .before .before .before)) (at-key .key-of .ensures) (found .place-of .ensures .1) (c .before .if1 .taken)
+    (c .if2 .taken)
 
 returns-2 : tie.Need-returns-2
 returns-2 c =
     let found = c .before .before in
     let at-key = found .before .before in
-    bar-zero _ _ _ _ _ _ _ _ _ (long (at-key .before .before .before)) (at-key .key-of .ensures) (found .place-of .ensures .1) (c .before .if1 .taken) (c .if2 .left)
+    bar-zero _ _ _ _ _ _ _ _ _ (long (at-key .before .before .before)) (at-key .key-of .ensures) (found .place-of .ensures .1) (c .before .if1 .taken)
+    (c .if2 .left)
 
 returns-3 : tie.Need-returns-3
 returns-3 c =
     let found = c .before .before in
     let at-key = found .before .before in
-    bar-before _ _ _ _ _ _ _ _ _ (long (at-key .before .before .before)) (at-key .key-of .ensures) (found .place-of .ensures .1) (c .before .if1 .left) (c .if3 .taken)
+    bar-before _ _ _ _ _ _ _ _ _ (long (at-key .before .before .before)) (at-key .key-of .ensures) (found .place-of .ensures .1) (c .before .if1 .left)
+    (c .if3 .taken)
 
 returns-4 : tie.Need-returns-4
 returns-4 c =
@@ -35,7 +38,8 @@ returns-4 c =
     let found = more .before .before in
     let at-key = found .before .before in
     let push = pushed .push-3n .ensures in
-    bar-next _ _ _ _ _ _ _ _ _ (long (at-key .before .before .before)) (at-key .key-of .ensures) (found .place-of .ensures .1) (more .before .if1 .left) (more .if3 .left)
+    bar-next _ _ _ _ _ _ _ _ _ (long (at-key .before .before .before)) (at-key .key-of .ensures) (found .place-of .ensures .1) (more .before .if1 .left)
+    (more .if3 .left)
     _ _ _ (push .0) (push .1 .0) (push .1 .1)
 
 pub number-bar-spec : {M : Type 1} → statement M

@@ -50,7 +50,8 @@ loop-again c =
     let in-loop = step .before .before .before .before in
     let head = in-loop .before in
     let start = head .before .before .before .before in
-    numbering-next _ _ _ _ _ _ _ (start .pre .0 .0) (start .pre .0 .2) _ _ _ _ (head .loop .i) (head .loop .inv) (in-loop .loop-test .taken) _ _ _ _ (step .number-bar .ensures)
+    numbering-next _ _ _ _ _ _ _ (start .pre .0 .0) (start .pre .0 .2) _ _ _ _ (head .loop .i) (head .loop .inv) (in-loop .loop-test .taken) _ _ _ _
+    (step .number-bar .ensures)
 
 returns : tie.Need-returns Inv-loop μ-loop
 returns c =

@@ -38,7 +38,8 @@ loop-again c =
     let more = in-loop .loop-test .taken in (
       omega arith,
       simp length-set (inv .1),
-      marks-next _ _ _ _ (head .loop .i) (inv .2) _ (omega (arith, more, pre .0)) (omega (arith, more, pre .0)) (omega (arith, more, pre .0, inv .1)) (c .row-of .ensures),
+      marks-next _ _ _ _ (head .loop .i) (inv .2) _ (omega (arith, more, pre .0)) (omega (arith, more, pre .0)) (omega (arith, more, pre .0, inv .1))
+          (c .row-of .ensures),
     )
 
 returns : tie.Need-returns Inv-loop μ-loop

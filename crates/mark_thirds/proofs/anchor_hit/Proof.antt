@@ -9,7 +9,7 @@ use Rattle.rules.specs.Lists.{find}
 use Rattle.rules.specs.Records.{Levels}
 use Rattle.rules.specs.Marks.{beats}
 use Rattle.tables.specs.Tables.{Bigs}
-use Rattle.mark_hits.specs.Anchors.{barsIn}
+use Rattle.mark_hits.specs.Anchors.{endBarsIn}
 use Rattle.mark_hits.proofs.Ends.{end-later}
 use Rattle.mark_hits.proofs.Anchors.{bars-none, bars-over, bars-next}
 use Rattle.mark_hits.proofs.Hits.{hits-over, hit-first, hit-later}
@@ -19,8 +19,8 @@ use Rattle.mark_thirds.proofs.anchor_hit.Tie as tie
 abbrev Inv-loop : tie.InvT-loop
 Inv-loop bars prices side bar from p highs lows k₀ k =
     (c : Levels) → Bigs c (side .bigs) bars prices
-    → find (beats (record { highs = highs; lows = lows }) (side .buy) p) (barsIn c (side .buy) bar (drop from (c .bigs)))
-    ≡ find (beats (record { highs = highs; lows = lows }) (side .buy) p) (barsIn c (side .buy) bar (drop k (c .bigs)))
+    → find (beats (record { highs = highs; lows = lows }) (side .buy) p) (endBarsIn c (side .buy) bar (drop from (c .bigs)))
+    ≡ find (beats (record { highs = highs; lows = lows }) (side .buy) p) (endBarsIn c (side .buy) bar (drop k (c .bigs)))
 
 abbrev μ-loop : tie.MeasureT-loop
 μ-loop bars prices side bar from p highs lows k₀ k = side .bigs - k
