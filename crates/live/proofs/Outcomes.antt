@@ -1,7 +1,7 @@
 -- What a call has done, from what its code finds: a number, or new records with their zones. Assumes nothing.
 use Prim.Native.Nat.{ℕ}
 use mathlib.Core.Path.{_≡_, refl, sym, subst, _∙_}
-use mathlib.Core.Bool.{true, false}
+use mathlib.Core.Bool.{Bool, true, false}
 use mathlib.Core.List.{List}
 use native.Mathlib.Omega.{arith}
 use lib.Seq.{length-take-le}
@@ -27,6 +27,19 @@ use Rattle.live.specs.Steps.{Accepts, Steps, Renews}
 
 -- ---- numbers
 
+-- a call's first number: where it is 0 the chart passes 21, and else it is the call's
+module _ (b : LiveData) (n : ℕ) (e : n ≡ refuse (badLive b) 21 0) where
+  pub passes : n ≡ 0 → badLive b ≡ false
+  passes z = refuse-no (badLive b) 20 0 (sym e ∙ z)
+
+  pub first-number : (k : Call) → (n ≡ 0 → ⊥) → n ≡ liveRefusal b k
+  unfolding liveRefusal refuse
+  first-number k f = e ∙ go (badLive b) refl
+    where
+      go : (t : Bool) → badLive b ≡ t → refuse t 21 0 ≡ refuse t 21 (refusal (levelsOf (b .chart)) k)
+      go true h = refl
+      go false h = absurd (f (e ∙ rw h))
+
 module _ (b : LiveData) (k : Call) where
   pub own-number : (n : ℕ) → badLive b ≡ false → n ≡ refusal (levelsOf (b .chart)) k → n ≡ liveRefusal b k
   unfolding liveRefusal refuse
@@ -45,10 +58,6 @@ module _ (b : LiveData) (k : Call) where
 module _ (b : Live) (k : Call) where
   pub did-not : (n : ℕ) → n ≡ liveRefusal (dataOf b) k → (n ≡ 0 → ⊥) → Did b k n b
   did-not n e f = record { number = e; same = λ g. refl; stepped = λ g. absurd (f g); told = λ g. absurd (f g) }
-
-  pub did-21 : badLive (dataOf b) ≡ true → Did b k 21 b
-  unfolding liveRefusal refuse
-  did-21 h = did-not 21 (rw h) (λ (z : 21 ≡ 0). omega arith)
 
 -- ---- steps
 

@@ -12,7 +12,7 @@ ghost use mathlib.Core.Path.{_≡_};
 ghost use mathlib.Core.List.{map};
 ghost use Prim.Native.Nat.{_≤_};
 ghost use lib.ListN.{take};
-ghost use Rattle.rules.specs.Refusals.{badLive};
+ghost use Rattle.rules.specs.Refusals.{refuse, badLive};
 ghost use Rattle.rules.specs.Machine.{addStroke, addSegment, addBig, addSuperior, lengthen, withdraw, deriveBigs, deriveSuperiors, callOf, asTriple, countUp};
 ghost use Rattle.live.specs.Did.{dataOf, Nothing, Did};
 ghost use Rattle.live.specs.Steps.{Accepts, Steps, Renews};
@@ -114,13 +114,17 @@ pub struct Answered {
 }
 
 impl Live {
-    // 21 of a call.
-    fn bad(self) -> bool
-        ensures { λ r. ⌜ r ≡ badLive (dataOf self) ⌝ }
+    // The number of a call that comes before its own: 21, or 0 where it is not given.
+    fn first_number(self) -> u8
+        ensures { λ r. ⌜ r ≡ refuse (badLive (dataOf self)) 21 0 ⌝ }
     {
         let chart = self.chart;
         let zones = self.zones;
-        kept::bad_live(chart, zones, self.zone_count)
+        if kept::bad_live(chart, zones, self.zone_count) {
+            21
+        } else {
+            0
+        }
     }
 
     // The live chart with new records: the zones afresh, one more in the count, and all else as it was.
@@ -140,27 +144,20 @@ impl Live {
     pub fn add_stroke(mut self, s: Stroke) -> Answered
         ensures { λ r. ⌜ Did self (addStroke s) (r .number) (r .chart) ⌝ }
     {
-        if self.bad() {
-            return Answered {
-                chart: self,
-                number: 21,
-            };
-        }
+        let mut number = self.first_number();
         let mut chart = self.chart;
-        let number = calls::stroke_refusal(chart, s);
-        if number != 0 {
-            return Answered {
-                chart: self,
-                number,
-            };
+        if number == 0 {
+            number = calls::stroke_refusal(chart, s);
         }
-        let n = chart.stroke_count as usize;
-        chart.strokes[n] = s;
-        chart.stroke_count += 1;
-        self = self.renewed(chart);
+        if number == 0 {
+            let n = chart.stroke_count as usize;
+            chart.strokes[n] = s;
+            chart.stroke_count += 1;
+            self = self.renewed(chart);
+        }
         Answered {
             chart: self,
-            number: 0,
+            number,
         }
     }
 
@@ -168,28 +165,21 @@ impl Live {
     pub fn add_segment(mut self, t: Triple) -> Answered
         ensures { λ r. ⌜ Did self (addSegment t) (r .number) (r .chart) ⌝ }
     {
-        if self.bad() {
-            return Answered {
-                chart: self,
-                number: 21,
-            };
-        }
+        let mut number = self.first_number();
         let mut chart = self.chart;
-        let level = chart.segments;
-        let number = calls::triple_refusal(level, chart.segment_count, chart.stroke_count, t);
-        if number != 0 {
-            return Answered {
-                chart: self,
-                number,
-            };
+        if number == 0 {
+            let level = chart.segments;
+            number = calls::triple_refusal(level, chart.segment_count, chart.stroke_count, t);
         }
-        let n = chart.segment_count as usize;
-        chart.segments[n] = t;
-        chart.segment_count += 1;
-        self = self.renewed(chart);
+        if number == 0 {
+            let n = chart.segment_count as usize;
+            chart.segments[n] = t;
+            chart.segment_count += 1;
+            self = self.renewed(chart);
+        }
         Answered {
             chart: self,
-            number: 0,
+            number,
         }
     }
 
@@ -197,28 +187,21 @@ impl Live {
     pub fn add_big(mut self, t: Triple) -> Answered
         ensures { λ r. ⌜ Did self (addBig t) (r .number) (r .chart) ⌝ }
     {
-        if self.bad() {
-            return Answered {
-                chart: self,
-                number: 21,
-            };
-        }
+        let mut number = self.first_number();
         let mut chart = self.chart;
-        let level = chart.bigs;
-        let number = calls::triple_refusal(level, chart.big_count, chart.segment_count, t);
-        if number != 0 {
-            return Answered {
-                chart: self,
-                number,
-            };
+        if number == 0 {
+            let level = chart.bigs;
+            number = calls::triple_refusal(level, chart.big_count, chart.segment_count, t);
         }
-        let n = chart.big_count as usize;
-        chart.bigs[n] = t;
-        chart.big_count += 1;
-        self = self.renewed(chart);
+        if number == 0 {
+            let n = chart.big_count as usize;
+            chart.bigs[n] = t;
+            chart.big_count += 1;
+            self = self.renewed(chart);
+        }
         Answered {
             chart: self,
-            number: 0,
+            number,
         }
     }
 
@@ -226,28 +209,21 @@ impl Live {
     pub fn add_superior(mut self, t: Triple) -> Answered
         ensures { λ r. ⌜ Did self (addSuperior t) (r .number) (r .chart) ⌝ }
     {
-        if self.bad() {
-            return Answered {
-                chart: self,
-                number: 21,
-            };
-        }
+        let mut number = self.first_number();
         let mut chart = self.chart;
-        let level = chart.superiors;
-        let number = calls::triple_refusal(level, chart.superior_count, chart.big_count, t);
-        if number != 0 {
-            return Answered {
-                chart: self,
-                number,
-            };
+        if number == 0 {
+            let level = chart.superiors;
+            number = calls::triple_refusal(level, chart.superior_count, chart.big_count, t);
         }
-        let n = chart.superior_count as usize;
-        chart.superiors[n] = t;
-        chart.superior_count += 1;
-        self = self.renewed(chart);
+        if number == 0 {
+            let n = chart.superior_count as usize;
+            chart.superiors[n] = t;
+            chart.superior_count += 1;
+            self = self.renewed(chart);
+        }
         Answered {
             chart: self,
-            number: 0,
+            number,
         }
     }
 
@@ -255,27 +231,20 @@ impl Live {
     pub fn lengthen(mut self, last: u16) -> Answered
         ensures { λ r. ⌜ Did self (lengthen last) (r .number) (r .chart) ⌝ }
     {
-        if self.bad() {
-            return Answered {
-                chart: self,
-                number: 21,
-            };
-        }
+        let mut number = self.first_number();
         let mut chart = self.chart;
-        let level = chart.superiors;
-        let number = calls::lengthen_refusal(level, chart.superior_count, chart.big_count, last);
-        if number != 0 {
-            return Answered {
-                chart: self,
-                number,
-            };
+        if number == 0 {
+            let level = chart.superiors;
+            number = calls::lengthen_refusal(level, chart.superior_count, chart.big_count, last);
         }
-        let n = (chart.superior_count - 1) as usize;
-        chart.superiors[n].last = last;
-        self = self.renewed(chart);
+        if number == 0 {
+            let n = (chart.superior_count - 1) as usize;
+            chart.superiors[n].last = last;
+            self = self.renewed(chart);
+        }
         Answered {
             chart: self,
-            number: 0,
+            number,
         }
     }
 
@@ -283,24 +252,17 @@ impl Live {
     pub fn withdraw(mut self, level: u8) -> Answered
         ensures { λ r. ⌜ Did self (withdraw level) (r .number) (r .chart) ⌝ }
     {
-        if self.bad() {
-            return Answered {
-                chart: self,
-                number: 21,
-            };
-        }
+        let mut number = self.first_number();
         let chart = self.chart;
-        let number = calls::withdraw_refusal(chart, level);
-        if number != 0 {
-            return Answered {
-                chart: self,
-                number,
-            };
+        if number == 0 {
+            number = calls::withdraw_refusal(chart, level);
         }
-        self = self.renewed(shortened(chart, level));
+        if number == 0 {
+            self = self.renewed(shortened(chart, level));
+        }
         Answered {
             chart: self,
-            number: 0,
+            number,
         }
     }
 
@@ -308,29 +270,22 @@ impl Live {
     pub fn derive_bigs(mut self, byte: u8) -> Answered
         ensures { λ r. ⌜ Did self (deriveBigs byte) (r .number) (r .chart) ⌝ }
     {
-        if self.bad() {
-            return Answered {
-                chart: self,
-                number: 21,
-            };
-        }
+        let mut number = self.first_number();
         let mut chart = self.chart;
-        let number = calls::derive_refusal(chart.big_count, byte);
-        if number != 0 {
-            return Answered {
-                chart: self,
-                number,
-            };
+        if number == 0 {
+            number = calls::derive_refusal(chart.big_count, byte);
         }
-        let found = classes::classify_big_segments(chart, byte);
-        let rows = found.rows;
-        let triples = triples_of(rows, found.count);
-        chart.bigs = triples;
-        chart.big_count = found.count;
-        self = self.renewed(chart);
+        if number == 0 {
+            let found = classes::classify_big_segments(chart, byte);
+            let rows = found.rows;
+            let triples = triples_of(rows, found.count);
+            chart.bigs = triples;
+            chart.big_count = found.count;
+            self = self.renewed(chart);
+        }
         Answered {
             chart: self,
-            number: 0,
+            number,
         }
     }
 
@@ -338,29 +293,22 @@ impl Live {
     pub fn derive_superiors(mut self, byte: u8) -> Answered
         ensures { λ r. ⌜ Did self (deriveSuperiors byte) (r .number) (r .chart) ⌝ }
     {
-        if self.bad() {
-            return Answered {
-                chart: self,
-                number: 21,
-            };
-        }
+        let mut number = self.first_number();
         let mut chart = self.chart;
-        let number = calls::derive_refusal(chart.superior_count, byte);
-        if number != 0 {
-            return Answered {
-                chart: self,
-                number,
-            };
+        if number == 0 {
+            number = calls::derive_refusal(chart.superior_count, byte);
         }
-        let found = classes::classify_sup_segments(chart, byte);
-        let rows = found.rows;
-        let triples = triples_of(rows, found.count);
-        chart.superiors = triples;
-        chart.superior_count = found.count;
-        self = self.renewed(chart);
+        if number == 0 {
+            let found = classes::classify_sup_segments(chart, byte);
+            let rows = found.rows;
+            let triples = triples_of(rows, found.count);
+            chart.superiors = triples;
+            chart.superior_count = found.count;
+            self = self.renewed(chart);
+        }
         Answered {
             chart: self,
-            number: 0,
+            number,
         }
     }
 
