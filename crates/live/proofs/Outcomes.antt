@@ -2,6 +2,7 @@
 use Prim.Native.Nat.{ℕ}
 use mathlib.Core.Path.{_≡_, refl, sym, subst, _∙_}
 use mathlib.Core.Bool.{Bool, true, false}
+use mathlib.Core.Logic.{_⊎_, inl, inr}
 use mathlib.Core.List.{List}
 use native.Mathlib.Omega.{arith}
 use lib.Seq.{length-take-le}
@@ -27,23 +28,27 @@ use Rattle.live.specs.Steps.{Accepts, Steps, Renews}
 
 -- ---- numbers
 
--- a call's first number: where it is 0 the chart passes 21, and else it is the call's
-module _ (b : LiveData) (n : ℕ) (e : n ≡ refuse (badLive b) 21 0) where
-  pub passes : n ≡ 0 → badLive b ≡ false
-  passes z = refuse-no (badLive b) 20 0 (sym e ∙ z)
+-- a call's first number is 0: its chart is not refused
+module _ (b : LiveData) (first : ℕ) (e : first ≡ refuse (badLive b) 21 0) where
+  passed : first ≡ 0 → badLive b ≡ false
+  passed z = refuse-no (badLive b) 20 0 (sym e ∙ z)
 
-  pub first-number : (k : Call) → (n ≡ 0 → ⊥) → n ≡ liveRefusal b k
-  unfolding liveRefusal refuse
-  first-number k f = e ∙ go (badLive b) refl
-    where
-      go : (t : Bool) → badLive b ≡ t → refuse t 21 0 ≡ refuse t 21 (refusal (levelsOf (b .chart)) k)
-      go true h = refl
-      go false h = absurd (f (e ∙ rw h))
+  pub passes : first ≡ 0 → badChart (b .chart) ≡ false
+  passes z = not-21-good b (passed z)
 
 module _ (b : LiveData) (k : Call) where
-  pub own-number : (n : ℕ) → badLive b ≡ false → n ≡ refusal (levelsOf (b .chart)) k → n ≡ liveRefusal b k
+  -- n is the call's own number where its first number is 0, and else that: either way what the call answers
+  pub answer-is :
+      {Own First : Type 0} (first n : ℕ) → first ≡ refuse (badLive b) 21 0
+      → (Own → (first ≡ 0) × (badChart (b .chart) ≡ false → n ≡ refusal (levelsOf (b .chart)) k)) → (First → (first ≡ 0 → ⊥) × (n ≡ first))
+      → Own ⊎ First → n ≡ liveRefusal b k
   unfolding liveRefusal refuse
-  own-number n h e = rw h e
+  answer-is first n e f g (inl w) = rw (passed b first e (f w .0)) (f w .1 (passes b first e (f w .0)))
+  answer-is first n e f g (inr w) = go (badLive b) refl
+    where
+      go : (t : Bool) → badLive b ≡ t → n ≡ refuse t 21 (refusal (levelsOf (b .chart)) k)
+      go true h = g w .1 ∙ e ∙ rw h
+      go false h = absurd (g w .0 (e ∙ rw h))
 
   pub accepts : liveRefusal b k ≡ 0 → Accepts (b .chart) k
   unfolding liveRefusal

@@ -1,17 +1,15 @@
 -- `live::Live::add_stroke` meets its contract. Assumes nothing.
 use native.Mathlib.Omega.{arith}
 use mathlib.Core.Path.{_≡_, sym, _∙_}
-use mathlib.Core.Logic.{⊎-elim}
 use borrow.Author.Needs.{needs}
 use Rattle.rules.specs.Records.{levelsOf}
 use Rattle.rules.specs.Machine.{addStroke}
 use Rattle.rules.specs.Live.{liveRefusal}
 use Rattle.laws.proofs.Arrays.{length-via, Sized, sized-via}
 use Rattle.laws.proofs.Answers.{counted, room}
-use Rattle.laws.proofs.Machine.{not-21-good}
 use Rattle.laws.proofs.Levels.{stroke}
 use Rattle.live.specs.Did.{dataOf}
-use Rattle.live.proofs.Outcomes.{passes, first-number, own-number, did-not, accepts}
+use Rattle.live.proofs.Outcomes.{passes, answer-is, did-not, accepts}
 use Rattle.live.proofs.Levelled.{adding-refused, adding-room, adding-does}
 use Rattle.live.proofs.Live.add_stroke.Statement.{statement}
 use Rattle.live.proofs.Live.add_stroke.Tie as tie
@@ -25,19 +23,15 @@ start c = c .before .before .before
 number-is : (c : tie.Joined1) → c .if1 .number ≡ liveRefusal (dataOf (start c .args .self)) (addStroke (start c .args .s))
 unfolding levelsOf
 number-is c =
-    let first = c .before .before .first-number .ensures in
-    ⊎-elim
-    (λ w.
-    let good = passes _ _ first (w .0 .taken) in
-    w .2 ∙ own-number _ _ _ good (w .1 .ensures ∙ sym (adding-refused _ (sized (start c)) (counted _ (not-21-good _ good)) stroke _)))
-    (λ w. w .1 ∙ first-number _ _ first _ (w .0 .left))
-    (c .if1 .came)
+    answer-is _ _ _ _ (c .before .before .first-number .ensures)
+    (λ w. (w .0 .taken, λ good. w .2 ∙ w .1 .ensures ∙ sym (adding-refused _ (sized (start c)) (counted _ good) stroke _)))
+    (λ w. (w .0 .left, w .1)) (c .if1 .came)
 
 zero : (c : tie.Then2) → liveRefusal (dataOf (start (c .before) .args .self)) (addStroke (start (c .before) .args .s)) ≡ 0
 zero c = sym (number-is (c .before)) ∙ c .if2 .taken
 
 stroke-refusal-requires : tie.Need-stroke-refusal-requires
-stroke-refusal-requires c κs = room _ (not-21-good _ (passes _ _ (c .before .before .first-number .ensures) (c .if1 .taken)))
+stroke-refusal-requires c κs = room _ (passes _ _ (c .before .before .first-number .ensures) (c .if1 .taken))
 
 element-set-from-s : tie.Need-element-set-from-s
 element-set-from-s c = adding-room _ (sized (start (c .before))) stroke _ (accepts _ _ (zero c))

@@ -2,15 +2,13 @@
 use Prim.Native.Nat.{_≤_}
 use native.Mathlib.Omega.{arith}
 use mathlib.Core.Path.{_≡_, sym, _∙_}
-use mathlib.Core.Logic.{⊎-elim}
 use borrow.Author.Needs.{needs}
 use Rattle.rules.specs.Machine.{lengthen}
 use Rattle.rules.specs.Live.{liveRefusal}
 use Rattle.laws.proofs.Arrays.{length-via, Sized, sized-via}
 use Rattle.laws.proofs.Answers.{counted}
-use Rattle.laws.proofs.Machine.{not-21-good}
 use Rattle.live.specs.Did.{dataOf}
-use Rattle.live.proofs.Outcomes.{passes, first-number, own-number, did-not, accepts}
+use Rattle.live.proofs.Outcomes.{passes, answer-is, did-not, accepts}
 use Rattle.live.proofs.Levelled.{lengthen-refused}
 use Rattle.live.proofs.Ends.{some-superior, lengthen-does}
 use Rattle.live.proofs.Live.lengthen.Statement.{statement}
@@ -24,13 +22,9 @@ start c = c .before .before .before
 
 number-is : (c : tie.Joined1) → c .if1 .number ≡ liveRefusal (dataOf (start c .args .self)) (lengthen (start c .args .last))
 number-is c =
-    let first = c .before .before .first-number .ensures in
-    ⊎-elim
-    (λ w.
-    let good = passes _ _ first (w .0 .taken) in
-    w .3 ∙ own-number _ _ _ good (w .2 .ensures ∙ sym (lengthen-refused _ (sized (start c)) (counted _ (not-21-good _ good)) _)))
-    (λ w. w .1 ∙ first-number _ _ first _ (w .0 .left))
-    (c .if1 .came)
+    answer-is _ _ _ _ (c .before .before .first-number .ensures)
+    (λ w. (w .0 .taken, λ good. w .3 ∙ w .2 .ensures ∙ sym (lengthen-refused _ (sized (start c)) (counted _ good) _)))
+    (λ w. (w .0 .left, w .1)) (c .if1 .came)
 
 zero : (c : tie.Then2) → liveRefusal (dataOf (start (c .before) .args .self)) (lengthen (start (c .before) .args .last)) ≡ 0
 zero c = sym (number-is (c .before)) ∙ c .if2 .taken
@@ -40,7 +34,7 @@ there c = some-superior _ (sized (start (c .before))) _ (accepts _ _ (zero c))
 
 lengthen-refusal-requires : tie.Need-lengthen-refusal-requires
 lengthen-refusal-requires c κs =
-    counted _ (not-21-good _ (passes _ _ (c .before .before .before .first-number .ensures) (c .before .if1 .taken))) .superiors
+    counted _ (passes _ _ (c .before .before .before .first-number .ensures) (c .before .if1 .taken)) .superiors
 
 sub-n : tie.Need-sub-n
 sub-n c = there c

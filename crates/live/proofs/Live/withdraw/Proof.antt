@@ -1,13 +1,11 @@
 -- `live::Live::withdraw` meets its contract. Assumes nothing.
 use mathlib.Core.Path.{_≡_, sym, _∙_}
-use mathlib.Core.Logic.{⊎-elim}
 use borrow.Author.Needs.{needs}
 use Rattle.rules.specs.Machine.{withdraw, refusal}
 use Rattle.rules.specs.Live.{liveRefusal}
 use Rattle.laws.proofs.Answers.{room}
-use Rattle.laws.proofs.Machine.{not-21-good}
 use Rattle.live.specs.Did.{dataOf}
-use Rattle.live.proofs.Outcomes.{passes, first-number, own-number, did-not, accepts}
+use Rattle.live.proofs.Outcomes.{passes, answer-is, did-not, accepts}
 use Rattle.live.proofs.Live.withdraw.Statement.{statement}
 use Rattle.live.proofs.Live.withdraw.Tie as tie
 
@@ -17,15 +15,14 @@ start c = c .before .before .before
 number-is : (c : tie.Joined1) → c .if1 .number ≡ liveRefusal (dataOf (start c .args .self)) (withdraw (start c .args .level))
 unfolding refusal
 number-is c =
-    let first = c .before .before .first-number .ensures in
-    ⊎-elim (λ w. w .2 ∙ own-number _ _ _ (passes _ _ first (w .0 .taken)) (w .1 .ensures)) (λ w. w .1 ∙ first-number _ _ first _ (w .0 .left))
+    answer-is _ _ _ _ (c .before .before .first-number .ensures) (λ w. (w .0 .taken, λ good. w .2 ∙ w .1 .ensures)) (λ w. (w .0 .left, w .1))
     (c .if1 .came)
 
 zero : (c : tie.Then2) → liveRefusal (dataOf (start (c .before) .args .self)) (withdraw (start (c .before) .args .level)) ≡ 0
 zero c = sym (number-is (c .before)) ∙ c .if2 .taken
 
 withdraw-refusal-requires : tie.Need-withdraw-refusal-requires
-withdraw-refusal-requires c κs = room _ (not-21-good _ (passes _ _ (c .before .before .first-number .ensures) (c .if1 .taken)))
+withdraw-refusal-requires c κs = room _ (passes _ _ (c .before .before .first-number .ensures) (c .if1 .taken))
 
 shortened-requires : tie.Need-shortened-requires
 shortened-requires c κs = accepts _ _ (zero c)
