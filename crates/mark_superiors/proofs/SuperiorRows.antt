@@ -107,11 +107,13 @@ module _ (sups scans bars : List (List ℕ)) (prices : List (List Float)) (n : C
                   let zs = overlapZones c in
                   let t = getD (c .superiors) i no-triple in
                   let rest = superiorsNumbered c q zs thirds (i + 1) (drop (i + 1) (c .superiors)) in
-                  let way : buy ≡ isUp (t .direction) = side
-                  ∙ ap (λ (x : Triple). isUp (x .direction)) (triple-is c (n .superiors) sups (s .superiors) i more) in
+                  let way : buy ≡ isUp (t .direction) =
+                  side ∙ ap (λ (x : Triple). isUp (x .direction)) (triple-is c (n .superiors) sups (s .superiors) i more)
+                  in
                   let now = rw (met c s, way) at (marks q thirds (so-far .grown .stay ∙ z)) in
-                  let more-left : drop i (c .superiors) ≡ t ∷ drop (i + 1) (c .superiors) = rw (add-one i)
-                  (drop-cons (c .superiors) i no-triple (inside c s)) in
+                  let more-left : drop i (c .superiors) ≡ t ∷ drop (i + 1) (c .superiors) =
+                  rw (add-one i) (drop-cons (c .superiors) i no-triple (inside c s))
+                  in
                   let here = rw (more-left, superiors-more c q zs thirds i t (drop (i + 1) (c .superiors))) at (so-far .left c q thirds s z) in
                   rw (now, ← foldl-append push3N _ _ rest) here;
             }

@@ -42,8 +42,10 @@ module _ (c : Levels) (q : Quotes) (none : endsOutside c q ≡ false) (one : len
   unfolding lastStroke endsOutside
   end-inside b s e =
       let (t, f, g) = then-some (getElem? (c .segments) (b .last)) (λ (t : Triple). getElem? (c .strokes) (t .last)) s e in
-      let in-highs = leb-false (length (q .highs)) (s .«end_bar»)
-      (any-at (λ (x : Stroke). leb (length (q .highs)) (x .«end_bar»)) (c .strokes) (t .last) s none g) in
+      let in-highs =
+      leb-false (length (q .highs)) (s .«end_bar»)
+      (any-at (λ (x : Stroke). leb (length (q .highs)) (x .«end_bar»)) (c .strokes) (t .last) s none g)
+      in
       (in-highs, omega (arith, in-highs, one))
 
   pub ends-inside : EndsInside c q

@@ -106,8 +106,9 @@ returns-2 c =
     let s = start top in
     let size = level-length (s .args .t1) (long s) (s .pre) (s .args .bigs) in
     let n = top .before .before .chosen-count .ensures in
-    let all : top .loop .k ≡ cond (s .args .bigs) (s .args .t1 .«big_count») (s .args .t1 .«segment_count») = omega
-    (arith, n, top .loop .inv .1, c .loop-test .left) in
+    let all : top .loop .k ≡ cond (s .args .bigs) (s .args .t1 .«big_count») (s .args .t1 .«segment_count») =
+    omega (arith, n, top .loop .inv .1, c .loop-test .left)
+    in
     rw all at (gathering-all _ _ _ _ (top .loop .inv .6) (omega (arith, size, all)))
 
 pub items-of-spec : {M : Type 1} → statement M
