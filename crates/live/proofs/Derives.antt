@@ -11,12 +11,12 @@ use borrow.Author.Tests.{not-false}
 use Rattle.chart.specs.declared.Triple.{Triple}
 use Rattle.chart.specs.declared.Class.{Class}
 use Rattle.chart.specs.declared.Chart.{Chart}
-use Rattle.rules.specs.Answer.{rowsAnswer}
+use Rattle.rules.specs.Answer.{rowsAnswer, answered}
 use Rattle.rules.specs.Lists.{isEmpty}
-use Rattle.rules.specs.Records.{levelsOf}
+use Rattle.rules.specs.Records.{Levels, levelsOf}
 use Rattle.rules.specs.Classes.{segmentClasses, bigClasses}
 use Rattle.rules.specs.Refusals.{refuse, aboveOne, deriveRefusal, segmentClassesRefusal, bigClassesRefusal}
-use Rattle.rules.specs.Calls.{segmentClassesCall, bigClassesCall}
+use Rattle.rules.specs.Calls.{onChart, segmentClassesCall, bigClassesCall}
 use Rattle.rules.specs.Machine.{Call, deriveBigs, deriveSuperiors, asTriple, refusal, stepped}
 use Rattle.laws.proofs.Tests.{refuse-no, refuse-on}
 use Rattle.laws.proofs.Arrays.{one-more}
@@ -92,25 +92,29 @@ module _ (c : Chart) (byte : ℕ) where
     unfolding stepped refusal levelsOf
     superiors-does = does c (deriveSuperiors byte) superior _ a refl (is-empty _ byte (a .accepted))
 
--- ---- the classes that the class calls give: 2 was asked before, and 10 cannot arise
+-- ---- the classes that a class call gives, whose refusals do not arise: 2 was asked before, and 10 cannot
+
+module _ (c : Chart) (k : Call) (a : Accepts c k) (number count : ℕ) (rows : List Class) where
+  found :
+      (r : Levels → ℕ) (l : Levels → List Class) → r (levelsOf c) ≡ 0
+      → rowsAnswer number count rows ≡ onChart c (λ (x : Levels). answered (r x) (l x)) → Found count rows (l (levelsOf c))
+  found r l zero e =
+      let rs = call-rows c r l number count rows e (call-number c r l number count rows e (a .good) ∙ zero) in
+      record { few = rs .few; same = rs .same }
 
 module _ (c : Chart) (byte number count : ℕ) (rows : List Class) where
   pub bigs-found :
       Accepts c (deriveBigs byte) → rowsAnswer number count rows ≡ segmentClassesCall c byte
       → Found count rows (segmentClasses (eqb byte 1) (levelsOf c))
   unfolding segmentClassesCall refusal
-  bigs-found a e =
-      let z = never-10-segments (levelsOf c) (ordered c _ a) byte ∙ good-byte _ byte (a .accepted) in
-      let n = call-number c (segmentClassesRefusal byte) (segmentClasses (eqb byte 1)) number count rows e (a .good) in
-      let r = call-rows c (segmentClassesRefusal byte) (segmentClasses (eqb byte 1)) number count rows e (n ∙ z) in
-      record { few = r .few; same = r .same }
+  bigs-found a =
+      found c _ a number count rows (segmentClassesRefusal byte) (segmentClasses (eqb byte 1))
+      (never-10-segments (levelsOf c) (ordered c _ a) byte ∙ good-byte _ byte (a .accepted))
 
   pub superiors-found :
       Accepts c (deriveSuperiors byte) → rowsAnswer number count rows ≡ bigClassesCall c byte
       → Found count rows (bigClasses (eqb byte 1) (levelsOf c))
   unfolding bigClassesCall refusal
-  superiors-found a e =
-      let z = never-10-bigs (levelsOf c) (ordered c _ a) byte ∙ good-byte _ byte (a .accepted) in
-      let n = call-number c (bigClassesRefusal byte) (bigClasses (eqb byte 1)) number count rows e (a .good) in
-      let r = call-rows c (bigClassesRefusal byte) (bigClasses (eqb byte 1)) number count rows e (n ∙ z) in
-      record { few = r .few; same = r .same }
+  superiors-found a =
+      found c _ a number count rows (bigClassesRefusal byte) (bigClasses (eqb byte 1))
+      (never-10-bigs (levelsOf c) (ordered c _ a) byte ∙ good-byte _ byte (a .accepted))

@@ -4,7 +4,6 @@ use mathlib.Core.Path.{_≡_, refl, sym, subst, _∙_}
 use mathlib.Core.Bool.{Bool, true, false}
 use mathlib.Core.Logic.{_⊎_, inl, inr}
 use mathlib.Core.List.{List}
-use native.Mathlib.Omega.{arith}
 use lib.Seq.{length-take-le}
 use Rattle.chart.specs.declared.Chart.{Chart}
 use Rattle.chart.specs.declared.Zone.{Zone}
@@ -22,6 +21,7 @@ use Rattle.laws.proofs.Zones.{never-11}
 use Rattle.laws.proofs.Kept.{kept}
 use Rattle.laws.proofs.Machine.{not-21-ordered, not-21-good}
 use Rattle.laws.proofs.Answers.{counted, call-number, call-rows}
+use Rattle.laws.proofs.Levels.{stroke, above, segment, big, superior, as-long}
 use Rattle.live.specs.declared.Live.{Live}
 use Rattle.live.specs.Did.{dataOf, part, Did}
 use Rattle.live.specs.Steps.{Accepts, Steps, Renews}
@@ -102,10 +102,10 @@ module _ (b : Live) (c : Chart) (number count : ℕ) (rows : List Zone) (z : Siz
         told =
             λ g.
             record {
-              strokes = length-take-le (c .«stroke_count») (c .strokes) (omega (arith, n .strokes, z .strokes));
-              segments = length-take-le (c .«segment_count») (c .segments) (omega (arith, n .segments, z .segments));
-              bigs = length-take-le (c .«big_count») (c .bigs) (omega (arith, n .bigs, z .bigs));
-              superiors = length-take-le (c .«superior_count») (c .superiors) (omega (arith, n .superiors, z .superiors));
+              strokes = as-long c z n stroke;
+              segments = as-long c z n (above segment);
+              bigs = as-long c z n (above big);
+              superiors = as-long c z n (above superior);
               zones = length-take-le count rows (r .few);
             };
       }
