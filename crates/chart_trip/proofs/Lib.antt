@@ -1,3 +1,4 @@
 pub mod Narrow
 pub mod Trip
+pub mod Files
 pub mod Facts

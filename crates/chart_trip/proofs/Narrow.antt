@@ -8,9 +8,11 @@ use base.Fml.{Fml}
 use mir.Val.{Val}
 use denote.Shadow.{shadow}
 use denote.Array.{each}
+use denote.Struct.Field.{array-field}
 use Rattle.chart.specs.declared.Chart.{Chart}
 use Rattle.chart.specs.declared.Stroke.{Stroke}
 use Rattle.chart.specs.declared.Triple.{Triple}
+use Rattle.chart.proofs.Chart as charts
 use Rattle.chart.proofs.Stroke as strokes
 use Rattle.chart.proofs.Triple as triples
 use Rattle.rules.specs.Lists.{any}
@@ -39,22 +41,25 @@ none-owned into own p h (suc n) [] us o = refl
 none-owned into own p h (suc n) (x ∷ xs) [] o = absurd o
 none-owned into own p h (suc n) (x ∷ xs) (u ∷ us) o = or-i _ _ (h x u (o .0)) (none-owned into own p h n xs us (o .1))
 
--- the arrays of a chart, as owning it tells of them
-abbrev pub StrokesOwned : List Stroke → List Val → Type 0
-StrokesOwned xs us = shadow (each (strokes.the-field .row .Denot) (strokes.the-field .row .own) (map (strokes.the-field .into) xs) us)
+-- those of an array of strokes or of triples
+narrow-strokes :
+    (n : ℕ) (xs : List Stroke) (us : List Val) → shadow (array-field strokes.the-field 512 .row .own (array-field strokes.the-field 512 .into xs) us)
+    → any (λ (s : Stroke). wideTwo (s .«start_bar») (s .«end_bar»)) (take n xs) ≡ false
+narrow-strokes n xs us o = none-owned (strokes.the-field .into) (strokes.the-field .row .own) _ narrow-stroke n xs (o .0) (o .1 .1)
 
-abbrev pub TriplesOwned : List Triple → List Val → Type 0
-TriplesOwned xs us = shadow (each (triples.the-field .row .Denot) (triples.the-field .row .own) (map (triples.the-field .into) xs) us)
+narrow-triples :
+    (n : ℕ) (xs : List Triple) (us : List Val) → shadow (array-field triples.the-field 256 .row .own (array-field triples.the-field 256 .into xs) us)
+    → any (λ (t : Triple). wideTwo (t .first) (t .last)) (take n xs) ≡ false
+narrow-triples n xs us o = none-owned (triples.the-field .into) (triples.the-field .row .own) _ narrow-triple n xs (o .0) (o .1 .1)
 
-pub narrow-levels :
-    (c : Chart) (a b d e : List Val) → StrokesOwned (c .strokes) a → TriplesOwned (c .segments) b → TriplesOwned (c .bigs) d
-    → TriplesOwned (c .superiors) e → anyLevel wide (levelsOf c) ≡ false
+-- those of a chart
+pub narrow-levels : (c : Chart) (us : List Val) → shadow (charts.the-field .row .own (charts.the-field .into c) us) → anyLevel wide (levelsOf c) ≡ false
 unfolding levelsOf wide
-narrow-levels c a b d e s t v w =
+narrow-levels c us o =
+    let fields = o .1 .1 in
     or-i _ _
     (or-i _ _
-    (or-i _ _
-    (none-owned (strokes.the-field .into) (strokes.the-field .row .own) _ narrow-stroke (c .«stroke_count») (c .strokes) a s)
-    (none-owned (triples.the-field .into) (triples.the-field .row .own) _ narrow-triple (c .«segment_count») (c .segments) b t))
-    (none-owned (triples.the-field .into) (triples.the-field .row .own) _ narrow-triple (c .«big_count») (c .bigs) d v))
-    (none-owned (triples.the-field .into) (triples.the-field .row .own) _ narrow-triple (c .«superior_count») (c .superiors) e w)
+    (or-i _ _ (narrow-strokes (c .«stroke_count») (c .strokes) _ (fields .0))
+    (narrow-triples (c .«segment_count») (c .segments) _ (fields .1 .1 .0)))
+    (narrow-triples (c .«big_count») (c .bigs) _ (fields .1 .1 .1 .1 .0)))
+    (narrow-triples (c .«superior_count») (c .superiors) _ (fields .1 .1 .1 .1 .1 .1 .0))

@@ -1,4 +1,4 @@
--- What is written is read again, by the contracts of the two calls. Assumes nothing.
+-- What a writing's contract tells, and what is written is read again. Assumes nothing.
 use Prim.Native.Nat.{ℕ, zero, suc, _≤_}
 use native.Mathlib.Omega.{arith}
 use mathlib.Core.Path.{_≡_, refl, sym, ap, _∙_}
@@ -16,7 +16,7 @@ use Rattle.laws.proofs.Tests.{refuse-no, refuse-on}
 use Rattle.laws.proofs.FileSteps.{refused-given}
 use Rattle.laws.proofs.FileBytes.{wide}
 use Rattle.laws.proofs.FileHeld.{anyLevel}
-use Rattle.laws.proofs.FileBack.{write-back}
+use Rattle.laws.proofs.FileBack.{read-back, chart-writable}
 use Rattle.chart_read.specs.Loaded.{loaded}
 use Rattle.chart_trip.specs.Trip.{tripCall, ReadsBack}
 
@@ -37,7 +37,7 @@ unfolding answered
 same-count a b e = cc
 
 module _ (c : Chart) (q : Quotes) (buffer : List ℕ) where
-  number-is : (number count : ℕ) → answered number count ≡ writeCall c q buffer → number ≡ writeRefusal c q buffer
+  pub number-is : (number count : ℕ) → answered number count ≡ writeCall c q buffer → number ≡ writeRefusal c q buffer
   unfolding writeCall
   number-is number count a = same-number number _ count _ a
 
@@ -69,7 +69,9 @@ module _ (c : Chart) (q : Quotes) (buffer : List ℕ) where
         (old : Quotes) → anyLevel wide (levelsOf c) ≡ false → length (q .highs) ≤ length (old .highs) → length (old .highs) ≡ length (old .lows)
         → tripCall c q buffer old ≡ given (record { levels = levelsOf c; bars = q })
     reads-back old w h same =
-        reads-written old ∙ equal-read old (written (levelsOf c) q) same ∙ rw bytes-are at (write-back (length (old .highs)) c q buffer e w h)
+        reads-written old
+        ∙ equal-read old (written (levelsOf c) q) same
+        ∙ read-back (length (old .highs)) (levelsOf c) q (chart-writable c q buffer e w) h
 
   refused-both :
       (old : Quotes) (k : ℕ) → (k ≡ 0 → ⊥) → writeRefusal c q buffer ≡ k → (d : Chart) (n : ℕ)
@@ -82,6 +84,9 @@ module _ (c : Chart) (q : Quotes) (buffer : List ℕ) where
     -- the count is one of the buffer
     pub count-fits : number ≡ 0 → length after ≡ length buffer → count ≤ length after
     count-fits z l = let e = sym (number-is number count a) ∙ z in omega (arith, count-is e number count z a, fits e, l)
+
+    pub bytes-written : number ≡ 0 → take count after ≡ written (levelsOf c) q
+    bytes-written z = let e = sym (number-is number count a) ∙ z in rw (count-is e number count z a, b) (bytes-are e)
 
     module _ (old : Quotes) where
       -- what the contract says of an answer and of the slices afterwards
@@ -101,6 +106,5 @@ module _ (c : Chart) (q : Quotes) (buffer : List ℕ) where
           → (answer ≡ readCall old (take count after)) × (new ≡ slicesAfter (readCall old (take count after)) old) → Tripped answer new
       given-trip z w answer new r =
           let e = sym (number-is number count a) ∙ z in
-          let bytes : take count after ≡ written (levelsOf c) q = rw (count-is e number count z a, b) (bytes-are e) in
-          let same : readCall old (take count after) ≡ tripCall c q buffer old = ap (readCall old) bytes ∙ sym (reads-written e old) in
+          let same : readCall old (take count after) ≡ tripCall c q buffer old = ap (readCall old) (bytes-written z) ∙ sym (reads-written e old) in
           (r .0 ∙ same, r .1 ∙ ap (λ (x : AnswerBy NumberAt Content). slicesAfter x old) same, b, λ f. reads-back f old w)

@@ -247,7 +247,7 @@ fn first_of(bad: bool, unequal: bool, wrong: bool, short: bool) -> u8
 }
 
 // 21; 8 slices unequal; 1 in either slice; 3 buffer too short. The size by counts is that of the bytes where 21 and 8 don't apply.
-fn refusal(chart: Chart, highs: &[f64], lows: &[f64], buffer: &[u8]) -> u8
+pub fn refusal(chart: Chart, highs: &[f64], lows: &[f64], buffer: &[u8]) -> u8
     ensures { λ r. ⌜ r ≡ writeRefusal chart (record { highs = now (highs .entry); lows = now (lows .entry) }) (now (buffer .entry)) ⌝ }
 {
     let size = levels_size(

@@ -4,8 +4,8 @@ use native.Mathlib.Omega.{arith}
 use mathlib.Core.Path.{_≡_, refl, sym, ap, _∙_}
 use mathlib.Core.Bool.{true, false}
 use mathlib.Core.List.{List, [], _∷_, _++_, map, foldl, foldl-append, append-assoc, append-nil}
-use lib.ListN.{length, take, drop, length-append}
-use lib.Seq.{take-at, drop-at}
+use lib.ListN.{length, length-append}
+use lib.Seq.{drop-at}
 use lib.Ieee.{Float}
 use borrow.Author.Tests.{eqb-true, lt-leb, not-false}
 use Rattle.chart.specs.declared.Stroke.{Stroke}
@@ -35,12 +35,10 @@ use Rattle.rules.specs.File.{
   readRecord,
   readFrom,
   readFile,
-  fill,
   barRecords,
   recordsOf,
   written,
   writeRefusal,
-  bufferAfter,
   marksOf,
   printed,
   marksOutput,
@@ -207,41 +205,49 @@ good-records c b w q e =
 
 -- ---- what is written is read back
 
+-- levels and bars that a writing accepts, with bars and indices that a u16 holds
+pub record Writable (c : Levels) (q : Quotes) : Type 0 where
+  pub right : badLevels c ≡ false
+  pub narrow : anyLevel wide c ≡ false
+  pub prices : badQuotes q ≡ false
+  pub equal : length (q .highs) ≡ length (q .lows)
+  pub within : Within (length (q .highs)) (record { levels = c; bars = q })
+
+-- with a place for every bar
 pub read-back :
-    (n : ℕ) (c : Levels) (q : Quotes) → badLevels c ≡ false → anyLevel wide c ≡ false → badQuotes q ≡ false → length (q .highs) ≡ length (q .lows)
-    → Within n (record { levels = c; bars = q }) → readFile n (written c q) ≡ given (record { levels = c; bars = q })
+    (n : ℕ) (c : Levels) (q : Quotes) → Writable c q → length (q .highs) ≤ n → readFile n (written c q) ≡ given (record { levels = c; bars = q })
 unfolding written
-read-back n c q b w p e s =
+read-back n c q w h =
     let all : Content = record { levels = c; bars = q } in
-    records-back n (recordsOf c q) all (good-records all b w p e) (append-records c q e) s
+    let fit = w .within in
+    records-back n (recordsOf c q) all (good-records all (w .right) (w .narrow) (w .prices) (w .equal)) (append-records c q (w .equal))
+    (record { strokes = fit .strokes; segments = fit .segments; bigs = fit .bigs; superiors = fit .superiors; bars = h })
 
 -- what `marks` prints of it is what the mark call gives
 pub marks-back :
-    (c : Levels) (q : Quotes) → badLevels c ≡ false → anyLevel wide c ≡ false → badQuotes q ≡ false → length (q .highs) ≡ length (q .lows)
-    → Within 2048 (record { levels = c; bars = q }) → marksOutput (written c q) ≡ marksOf (record { levels = c; bars = q })
+    (c : Levels) (q : Quotes) → Writable c q → length (q .highs) ≤ 2048 → marksOutput (written c q) ≡ marksOf (record { levels = c; bars = q })
 unfolding marksOutput printed
-marks-back c q b w p e s = ap printed (read-back 2048 c q b w p e s)
+marks-back c q w h = ap printed (read-back 2048 c q w h)
 
 -- ---- the call that writes
 
-chart-within : (c : Chart) (q : Quotes) (n : ℕ) → overfull c ≡ false → length (q .highs) ≤ n → Within n (record { levels = levelsOf c; bars = q })
+chart-within : (c : Chart) (q : Quotes) → overfull c ≡ false → Within (length (q .highs)) (record { levels = levelsOf c; bars = q })
 unfolding overfull levelsOf
-chart-within c q n o h =
+chart-within c q o =
     let f = chart-fit c o in
-    record { strokes = f .strokes; segments = f .segments; bigs = f .bigs; superiors = f .superiors; bars = h }
+    record { strokes = f .strokes; segments = f .segments; bigs = f .bigs; superiors = f .superiors; bars = omega arith }
 
--- where it is not refused, the bytes it wrote are read back as the chart and the bars, with a place for every bar
-pub write-back :
-    (n : ℕ) (c : Chart) (q : Quotes) (buffer : List ℕ) → writeRefusal c q buffer ≡ 0 → anyLevel wide (levelsOf c) ≡ false → length (q .highs) ≤ n
-    → readFile n (take (length (written (levelsOf c) q)) (bufferAfter c q buffer)) ≡ given (record { levels = levelsOf c; bars = q })
-unfolding writeRefusal bufferAfter badChart unequal
-write-back n c q buffer e w h =
+pub chart-writable :
+    (c : Chart) (q : Quotes) (buffer : List ℕ) → writeRefusal c q buffer ≡ 0 → anyLevel wide (levelsOf c) ≡ false → Writable (levelsOf c) q
+unfolding writeRefusal badChart unequal
+chart-writable c q buffer e w =
     let bad = refuse-no (badChart c) 20 _ e in
     let e8 = refuse-on (badChart c) 20 _ e in
     let e1 = refuse-on (unequal q) 7 _ e8 in
-    let same = eqb-true (length (q .highs)) (length (q .lows)) (not-false _ (refuse-no (unequal q) 7 _ e8)) in
-    let bytes = written (levelsOf c) q in
-    let after : bufferAfter c q buffer ≡ fill bytes buffer = rw (bufferAfter, e) in
-    rw (after, take-at bytes (drop (length bytes) buffer) (length bytes) refl)
-    (read-back n (levelsOf c) q (or-r (overfull c) (badLevels (levelsOf c)) bad) w (refuse-no (badQuotes q) 0 _ e1) same
-    (chart-within c q n (or-l (overfull c) (badLevels (levelsOf c)) bad) h))
+    record {
+      right = or-r (overfull c) (badLevels (levelsOf c)) bad;
+      narrow = w;
+      prices = refuse-no (badQuotes q) 0 _ e1;
+      equal = eqb-true (length (q .highs)) (length (q .lows)) (not-false _ (refuse-no (unequal q) 7 _ e8));
+      within = chart-within c q (or-l (overfull c) (badLevels (levelsOf c)) bad);
+    }

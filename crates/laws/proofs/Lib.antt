@@ -29,6 +29,7 @@ pub mod FileSteps
 pub mod FileBytes
 pub mod FileHeld
 pub mod FileBack
+pub mod FileSame
 pub mod FileGood
 pub mod FileLong
 pub mod FileCode

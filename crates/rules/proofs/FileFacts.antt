@@ -81,6 +81,14 @@ pub record Facts : Type 0 where
       recordBytes (bar (price 26) (price 1))
       ≡ 66 ∷ 82 ∷ 0 ∷ 0 ∷ 0 ∷ 0 ∷ 0 ∷ 0 ∷ 0x3A ∷ 0x40 ∷ 0 ∷ 0 ∷ 0 ∷ 0 ∷ 0 ∷ 0 ∷ 0xF0 ∷ 0x3F ∷ []
   pub marks-of : each markOf (ST ∷ SG ∷ BG ∷ SU ∷ BR ∷ []) ≡ ascii "STSGBGSUBR"
+  -- 02, request 7: "a writer puts BR first, then strokes (ST or SR), SG, BG, SU"; a record of each kind, byte for byte
+  pub one-of-each :
+      written (levels (priced 1 258 5 (price 26) (price 1) ∷ []) (triple 0 1 2 ∷ []) (triple 1 3 4 ∷ []) (triple 0 5 6 ∷ [])) (flat 1 40 12)
+      ≡ (66 ∷ 82 ∷ 0 ∷ 0 ∷ 0 ∷ 0 ∷ 0 ∷ 0 ∷ 0x44 ∷ 0x40 ∷ 0 ∷ 0 ∷ 0 ∷ 0 ∷ 0 ∷ 0 ∷ 0x28 ∷ 0x40 ∷ [])
+      ++ (83 ∷ 84 ∷ 1 ∷ 2 ∷ 1 ∷ 5 ∷ 0 ∷ 0 ∷ 0 ∷ 0 ∷ 0 ∷ 0 ∷ 0 ∷ 0x3A ∷ 0x40 ∷ 0 ∷ 0 ∷ 0 ∷ 0 ∷ 0 ∷ 0 ∷ 0xF0 ∷ 0x3F ∷ [])
+      ++ (83 ∷ 71 ∷ 0 ∷ 1 ∷ 0 ∷ 2 ∷ 0 ∷ [])
+      ++ (66 ∷ 71 ∷ 1 ∷ 3 ∷ 0 ∷ 4 ∷ 0 ∷ [])
+      ++ (83 ∷ 85 ∷ 0 ∷ 5 ∷ 0 ∷ 6 ∷ 0 ∷ [])
   -- chart K: 1,005 bytes, and read back
   pub k-length : length (written K (barsK 26)) ≡ 1005
   pub k-back : readFile 39 (written K (barsK 26)) ≡ content K (barsK 26)
@@ -153,6 +161,7 @@ facts =
       layout-triple = refl;
       layout-bar = refl;
       marks-of = refl;
+      one-of-each = refl;
       k-length = refl;
       k-back = refl;
       k-full = refl;

@@ -8,9 +8,9 @@ use Rattle.price.specs.Bytes.{bytesOf}
 use Rattle.rules.specs.Answer.{AnswerBy, NumberAt, given}
 use Rattle.rules.specs.Records.{Levels}
 use Rattle.rules.specs.Text.{ascii, marksText}
-use Rattle.rules.specs.File.{stroke, segment, big, superior, bar, recordBytes, Content, readFile, written}
+use Rattle.rules.specs.File.{superior, bar, recordBytes, Content, readFile}
 use Rattle.rules.proofs.Computing.{everything}
-use Rattle.rules.proofs.Charts.{price, triple, levels, flat, mark}
+use Rattle.rules.proofs.Charts.{price, triple, levels, mark}
 use Rattle.rules.proofs.MachineFacts.{priced}
 
 abbrev content : Levels → List Float → List Float → AnswerBy NumberAt Content
@@ -41,11 +41,6 @@ pub record Facts : Type 0 where
   pub bars-in-order :
       readFile 2 (recordBytes (bar (price 40) (price 12)) ++ recordBytes (bar (price 41) (price 13)))
       ≡ content (levels [] [] [] []) (price 40 ∷ price 41 ∷ []) (price 12 ∷ price 13 ∷ [])
-  -- the order in which a chart is written
-  pub written-in-order :
-      written (levels (priced 1 0 1 (price 2) (price 3) ∷ []) (triple 1 4 5 ∷ []) (triple 0 6 7 ∷ []) (triple 1 8 9 ∷ [])) (flat 1 40 12)
-      ≡ recordBytes (bar (price 40) (price 12)) ++ recordBytes (stroke (priced 1 0 1 (price 2) (price 3)))
-      ++ recordBytes (segment (triple 1 4 5)) ++ recordBytes (big (triple 0 6 7)) ++ recordBytes (superior (triple 1 8 9))
   -- a sell, numbers of two and three digits, and a hex digit 9
   pub a-sell-line : marksText (mark false 10 100 25 ∷ []) ≡ ascii "side order bar price\nsell 10 100 4039000000000000\n"
 
@@ -60,6 +55,5 @@ facts =
       read-bar = refl;
       superiors-in-order = refl;
       bars-in-order = refl;
-      written-in-order = refl;
       a-sell-line = refl;
     }

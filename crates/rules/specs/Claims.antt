@@ -1,4 +1,4 @@
--- What demand 3 claims of a chart and of its marks. Assumes nothing.
+-- What demand 3 claims of a chart and of its marks, and request 7 of 02 of files. Assumes nothing.
 use Prim.Native.Nat.{ℕ, _≤_, _<_}
 use mathlib.Core.Path.{_≡_}
 use mathlib.Core.Logic.{_≢_}
@@ -30,6 +30,7 @@ use Rattle.rules.specs.Marks.{
   superiorNumbered,
   anchorNumbered,
 }
+use Rattle.rules.specs.File.{written}
 
 -- ---- members
 
@@ -127,3 +128,10 @@ pub record Apart (ms : List NMark) : Type 0 where
   pub apart :
       (i j : ℕ) (m n : NMark) → getElem? ms i ≡ some m → getElem? ms j ≡ some n → m .«bar_index» ≡ n .«bar_index»
       → m .«is_buy» ≡ n .«is_buy» → i ≡ j
+
+-- ---- files
+
+-- 02, request 7: "Charts equal in their four levels, with equal bars, then give equal files, and the reverse"
+pub record SameFile (c : Levels) (q : Quotes) (d : Levels) (p : Quotes) : Type 0 where
+  pub forth : c ≡ d → q ≡ p → written c q ≡ written d p
+  pub back : written c q ≡ written d p → (c ≡ d) × (q ≡ p)

@@ -203,7 +203,8 @@ barRecords [] ls = []
 barRecords (h ∷ hs) [] = []
 barRecords (h ∷ hs) (l ∷ ls) = bar h l ∷ barRecords hs ls
 
--- A writer may mingle kinds; this one writes bars, strokes, segments, bigs, superiors
+-- 02, request 7: "From now on a writer puts BR first, then strokes (ST or SR), SG, BG, SU." The order is the format's and no choice; of strokes
+-- there are ST alone
 unfoldable pub recordsOf : Levels → Quotes → List Record
 recordsOf c q =
     barRecords (q .highs) (q .lows) ++ map stroke (c .strokes) ++ map segment (c .segments) ++ map big (c .bigs)

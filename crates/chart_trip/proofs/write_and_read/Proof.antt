@@ -1,10 +1,6 @@
 -- `chart_trip::write_and_read` meets its contract: the writing's refusal, or the reading of the bytes written. Assumes nothing.
-use mathlib.Core.Path.{_≡_, sym}
-use mathlib.Core.Bool.{false}
+use mathlib.Core.Path.{sym}
 use lib.Seq.{length-take-le}
-use Rattle.rules.specs.Records.{levelsOf}
-use Rattle.laws.proofs.FileBytes.{wide}
-use Rattle.laws.proofs.FileHeld.{anyLevel}
 use Rattle.chart_trip.proofs.Narrow.{narrow-levels}
 use Rattle.chart_trip.proofs.Trip.{count-fits, refused-trip, given-trip}
 use borrow.Author.Needs.{needs}
@@ -16,16 +12,6 @@ start c = c .before .before .before .before .before .before .before
 
 abbrev wrote : tie.Else1 → tie.After-write-chart
 wrote c = c .before .before .before .before
-
-narrow : (c : tie.Start) → anyLevel wide (levelsOf (c .args .chart)) ≡ false
-narrow c =
-    let fields = c .good .0 .1 .1 in
-    let strokes = fields .0 in
-    let segments = fields .1 .1 .0 in
-    let bigs = fields .1 .1 .1 .1 .0 in
-    let superiors = fields .1 .1 .1 .1 .1 .1 .0 in
-    narrow-levels (c .args .chart) (strokes .0) (segments .0) (bigs .0) (superiors .0) (strokes .1 .1) (segments .1 .1) (bigs .1 .1)
-    (superiors .1 .1)
 
 returns : tie.Need-returns
 returns c =
@@ -47,7 +33,7 @@ returns-2 c =
     let read = c .before .before .before .before in
     let test = read .before .before .before .before in
     let w = wrote test .write-chart .ensures in
-    given-trip _ _ _ _ _ _ (w .0) (w .1 .0) _ (test .if1 .left) (narrow (start (wrote test))) _ _ (read .read-chart .ensures)
+    given-trip _ _ _ _ _ _ (w .0) (w .1 .0) _ (test .if1 .left) (narrow-levels _ _ (start (wrote test) .good .0)) _ _ (read .read-chart .ensures)
 
 pub write-and-read-spec : {M : Type 1} → statement M
 write-and-read-spec =
