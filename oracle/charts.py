@@ -12,7 +12,12 @@ class Chart:
         return [[b"BR" + struct.pack("<dd", h, l) for h, l in self.bars], [b"ST" + struct.pack("<BHHdd", *s) for s in self.strokes]] + [[mark + struct.pack("<BHH", *t) for t in level] for mark, level in triples]
 
     def pack(self):
+        """request 7 of 02: "a writer puts BR first, then strokes (ST or SR), SG, BG, SU\""""
         return b"".join(b"".join(k) for k in self.kinds())
+
+    def parts(self):
+        """what two charts must have in common to be equal, with their bars"""
+        return self.strokes, self.segments, self.bigs, self.superiors, self.bars
 
     def mingled(self, r):
         """the same records with the kinds mingled, each kind in its order"""
@@ -27,7 +32,7 @@ def behind_lengths(files):
     return b"".join(struct.pack("<I", len(f)) + f for f in files)
 
 # of the stored cases of the program vectors; the number of a kind is its place
-KINDS = [b"UNKNOWN", b"REPORT", b"REWRITE", b"REPLAY"]
+KINDS = [b"UNKNOWN", b"REPORT", b"REWRITE", b"REPLAY", b"SAME"]
 
 def stream(cases):
     """cases, each of them its kind, its bytes and perhaps more, in one: the kind's number (a byte), the length (u32) and the bytes"""
@@ -41,6 +46,21 @@ def cases(data):
         out.append((KINDS[kind], data[at + 5:at + 5 + n]))
         at += 5 + n
     return out if at == len(data) else out[:-1]
+
+def rewritten(chart):
+    """what vectors prints of a file with this chart: the byte count and the file in order"""
+    return b"BYTES %d\n" % len(chart.pack()) + chart.pack()
+
+def to_compare(first, second, m, n):
+    """two files as a case of the kind SAME: the sizes of two buffers, the length of the first file, and both"""
+    return struct.pack("<HHH", m, n, len(first)) + first + second
+
+def compared(a, b, m, n):
+    """what it prints of two charts: the number, whether the files are equal, and buffers of m and n bytes 255, both as found on a refusal"""
+    number = 3 if m < len(a.pack()) or n < len(b.pack()) else 0
+    files = (b"", b"") if number else (a.pack(), b.pack())
+    buffers = [f + b"\xff" * (size - len(f)) for f, size in zip(files, (m, n))]
+    return b"NUMBER %d\nEQUAL %d\n" % (number, number == 0 and a.parts() == b.parts()) + b"".join(b"BYTES %d\n" % len(f) + f for f in buffers)
 
 # what `report` prints, in its order, as oracle/main.rs names it
 SECTIONS = ["ranges", "zones", "third", "threen", "labels", "classes", "firsts"]
@@ -549,6 +569,20 @@ def records(data):
         data = data[n:]
     return out
 
+# the fields of a record, by the byte at which each starts and its size
+FIELDS = {b"ST": [(2, 1), (3, 2), (5, 2), (7, 8), (15, 8)], b"BR": [(2, 8), (10, 8)]}
+FIELDS.update({mark: [(2, 1), (3, 2), (5, 2)] for mark in (b"SG", b"BG", b"SU")})
+
+def one_bit(r, record):
+    """the record with one bit of a field changed, for each field in turn; none is refused"""
+    for at, size in FIELDS[record[:2]]:
+        value = int.from_bytes(record[at:at + size], "little")
+        while True:
+            new = value ^ 1 << (0 if size == 1 else r.randrange(8 * size))
+            if size < 8 or new >> 52 & 2047 != 2047 and new != 1 << 63:
+                break
+        yield record[:at] + new.to_bytes(size, "little") + record[at + size:]
+
 def unpacked(data):
     """the chart in a file that is not refused"""
     c = Chart()
@@ -561,6 +595,28 @@ def unpacked(data):
         else:
             levels[p[:2]].append(struct.unpack("<BHH", p[2:]))
     return c
+
+def changed(r, data):
+    """the charts of a file with one bit of one field changed, for each field in turn"""
+    parts = records(data)
+    return [unpacked(b"".join(parts[:k] + [p] + parts[k + 1:])) for k, q in enumerate(parts) for p in one_bit(r, q)]
+
+def pairs(r):
+    """pairs of charts to compare, with the sizes of two buffers: equal ones; those that differ in one bit of a field, in a record's level, in the
+    order or number of records, at the very end; buffers that are large enough, exactly or by some bytes, or too short"""
+    base, k, most = unpacked(small_file()), chart_k(), full(SHAPES["short"], bars=2048)
+    tail = unpacked(most.pack())
+    tail.superiors[-1] = (1 - tail.superiors[-1][0], *tail.superiors[-1][1:])
+    t = (1, 0, 0)
+    differ = [(base, c) for c in changed(r, small_file())] + [(most, tail)]
+    differ += [(Chart(segments=[t]), Chart(bigs=[t])), (Chart(bigs=[t]), Chart(superiors=[t])), (Chart(segments=[t]), Chart(segments=[t] * 2))]
+    differ += [(Chart(bars=[(2.0, 1.0)]), Chart(bars=[(1.0, 2.0)])), (base, Chart(*base.parts()[:4])), (Chart(), base)]
+    differ += [(base, Chart(base.strokes[::-1], *base.parts()[1:])), (base, Chart(*base.parts()[:3], [], base.bars))]
+    equal = [(c, c) for c in [Chart(), base, k, *(generated(4, i) for i in range(12))]]
+    exact = [(a, b, len(a.pack()), len(b.pack())) for a, b in equal + differ + [(b, a) for a, b in differ[:27]]]
+    wider = [(a, b, m + r.randrange(9), n + r.randrange(9)) for a, b, m, n in exact[:40]]
+    short = [(a, b, m - x, n - y) for a, b, m, n in exact[:20] for x, y in ((1, 0), (0, 1), (1, 1), (m, 0)) if x <= m and y <= n and x + y]
+    return exact + wider + short
 
 def without(parts, k):
     """records without the one at k; numbers that name one behind it are one lower"""

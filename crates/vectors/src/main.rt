@@ -1,6 +1,6 @@
 // Replays a stream of stored cases and prints what comes of each. A case is its kind, a byte; its length, a u32 with the lowest byte first; and so
-// many bytes. Kinds: 1 a chart file, reported; 2 a chart file, read and written again; 3 a log, replayed. What must be printed was written by the
-// reference, by a packer and by a machine in Python (oracle/README.md). Of this program only safety is proved.
+// many bytes. Kinds: 1 a chart file, reported; 2 a chart file, read and written again; 3 a log, replayed; 4 two chart files, compared. What must be
+// printed was written by the reference, by a packer and by a machine in Python (oracle/README.md). Of this program only safety is proved.
 ghost use mathlib.Core.Path.{_≡_};
 ghost use Prim.Native.Nat.{_+_, _≤_, _<_};
 ghost use lib.ListN.{length};
@@ -48,6 +48,78 @@ fn rewrite(file: &[u8]) {
     write_first(read.chart, &highs, &lows, read.bars);
 }
 
+// ---- two chart files compared
+
+fn all_ones() -> [u8; 65536]
+    ensures { λ r. ⌜ 65536 ≡ length r ⌝ }
+{
+    [255; 65536]
+}
+
+// The answer for two charts, and both buffers whole.
+fn print_same(
+    a: chart::Chart,
+    a_highs: &[f64],
+    a_lows: &[f64],
+    b: chart::Chart,
+    b_highs: &[f64],
+    b_lows: &[f64],
+    first: &mut [u8],
+    second: &mut [u8],
+) {
+    let done = chart_trip::same_files(a, a_highs, a_lows, b, b_highs, b_lows, first, second);
+    print_line(b"NUMBER ", done.number as u64);
+    print_line(b"EQUAL ", done.same as u64);
+    print_first(&first[..], first.len());
+    print_first(&second[..], second.len());
+}
+
+// The charts with their bars, written into buffers of m and n bytes.
+fn compare_files(one: &[u8], two: &[u8], m: usize, n: usize)
+    requires { ⌜ (m ≤ 65536) × (n ≤ 65536) ⌝ }
+{
+    let mut a_highs = [0.0; 2048];
+    let mut a_lows = [0.0; 2048];
+    let mut b_highs = [0.0; 2048];
+    let mut b_lows = [0.0; 2048];
+    let a = chart_read::read_chart(one, &mut a_highs, &mut a_lows);
+    let b = chart_read::read_chart(two, &mut b_highs, &mut b_lows);
+    let i = a.bars;
+    let k = b.bars;
+    if 2048 < i {
+        return;
+    }
+    if 2048 < k {
+        return;
+    }
+    let mut first = all_ones();
+    let mut second = all_ones();
+    print_same(
+        a.chart,
+        &a_highs[..i],
+        &a_lows[..i],
+        b.chart,
+        &b_highs[..k],
+        &b_lows[..k],
+        &mut first[..m],
+        &mut second[..n],
+    );
+}
+
+// The sizes of two buffers and the length of the first file, each a u16; then both files.
+fn compare(case: &[u8]) {
+    if case.len() < 6 {
+        return;
+    }
+    let m = fields::two_at(case, 0) as usize;
+    let n = fields::two_at(case, 2) as usize;
+    let end = 6 + fields::two_at(case, 4) as usize;
+    if case.len() < end {
+        return;
+    }
+    compare_files(&case[6..end], &case[end..], m, n);
+}
+
 // ---- cases
 
 // A case, behind a line with its kind and its number in the stream.
@@ -64,6 +136,10 @@ fn print_case(kind: u8, number: u64, case: &[u8]) {
         3 => {
             print_line(b"REPLAY ", number);
             replay_lines::print_replay(case);
+        }
+        4 => {
+            print_line(b"SAME ", number);
+            compare(case);
         }
         _ => {
             print_line(b"UNKNOWN ", number);
