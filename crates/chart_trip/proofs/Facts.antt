@@ -90,15 +90,15 @@ facts =
       tells =
           λ a q b p same k.
           let f = k .files refl in
-          (λ t. let e = k .back refl t in f .forth (e .0) (e .1), λ t. let e = f .back t in k .forth refl (e .0) (e .1));
-      equal = λ q k. false≢true (k .forth refl refl refl);
+          (λ t. let e = k .only-if-equal refl t in f .forth (e .0) (e .1), λ t. let e = f .back t in k .if-equal refl (e .0) (e .1));
+      equal = λ q k. false≢true (k .if-equal refl refl refl);
       other-stroke =
           λ q k.
-          let z : _≡_ {A = ℕ} 1 2 = ap (λ (c : Levels). getD (map (λ (s : Stroke). s .«end_bar») (c .strokes)) 0 0) (k .back refl refl .0) in
+          let z : _≡_ {A = ℕ} 1 2 = ap (λ (c : Levels). getD (map (λ (s : Stroke). s .«end_bar») (c .strokes)) 0 0) (k .only-if-equal refl refl .0) in
           omega arith;
       other-bar =
           λ c k.
-          let z = ap (λ (q : Quotes). toBits binary64 (getD (q .lows) 0 nan)) (k .back refl refl .1) in
+          let z = ap (λ (q : Quotes). toBits binary64 (getD (q .lows) 0 nan)) (k .only-if-equal refl refl .1) in
           omega arith;
-      beside = λ c q k. false≢true (sym (k .refused (λ e. omega arith)));
+      beside = λ c q k. false≢true (sym (k .beside-refusal (λ e. omega arith)));
     }

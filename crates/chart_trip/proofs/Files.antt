@@ -44,7 +44,7 @@ module _ (a : Chart) (q : Quotes) (first : List ℕ) (b : Chart) (p : Quotes) (s
   unfolding fileAfter
   refused-files zero h e = absurd (h refl)
   refused-files (suc n) h e =
-      (e, record { refused = λ f. refl; files = λ z. absurd (h z); forth = λ z. absurd (h z); back = λ z. absurd (h z) }, refl, refl)
+      (e, record { files = λ z. absurd (h z); if-equal = λ z. absurd (h z); only-if-equal = λ z. absurd (h z); beside-refusal = λ f. refl }, refl, refl)
 
   module _ (e : sameRefusal a q first b p second ≡ 0) (v : anyLevel wide (levelsOf a) ≡ false) (w : anyLevel wide (levelsOf b) ≡ false) where
     -- same tells whether the bytes written are equal
@@ -58,10 +58,10 @@ module _ (a : Chart) (q : Quotes) (first : List ℕ) (b : Chart) (p : Quotes) (s
         let s = same-file (levelsOf a) q (levelsOf b) p (chart-writable a q first (ok .0) v) (chart-writable b p second (ok .1) w) in (
           sym e,
           record {
-            refused = λ z. absurd (z refl);
             files = λ z. s;
-            forth = λ z l m. t .1 (f ∙ s .forth l m ∙ sym g);
-            back = λ z r. s .back (sym f ∙ t .0 r ∙ g);
+            if-equal = λ z l m. t .1 (f ∙ s .forth l m ∙ sym g);
+            only-if-equal = λ z r. s .back (sym f ∙ t .0 r ∙ g);
+            beside-refusal = λ z. absurd (z refl);
           },
           h,
           k,

@@ -17,10 +17,10 @@ unfoldable pub fileAfter : ℕ → Chart → Quotes → List ℕ → List ℕ
 fileAfter zero c q buffer = bufferAfter c q buffer
 fileAfter (suc k) c q buffer = buffer
 
--- Where the number is 0, `same` says whether the two files are equal, and so whether the charts' levels and the bars are: "Charts equal in their four
--- levels, with equal bars, then give equal files, and the reverse". Beside a refusal it is false
+-- Where the number is 0, equal files are those of equal levels and bars, and `same` says whether the two are: "Charts equal in their four levels, with
+-- equal bars, then give equal files, and the reverse". Beside a refusal it is false
 pub record Compared (a : Chart) (q : Quotes) (b : Chart) (p : Quotes) (number : ℕ) (same : Bool) : Type 0 where
-  pub refused : (number ≡ 0 → ⊥) → same ≡ false
   pub files : number ≡ 0 → SameFile (levelsOf a) q (levelsOf b) p
-  pub forth : number ≡ 0 → levelsOf a ≡ levelsOf b → q ≡ p → same ≡ true
-  pub back : number ≡ 0 → same ≡ true → (levelsOf a ≡ levelsOf b) × (q ≡ p)
+  pub if-equal : number ≡ 0 → levelsOf a ≡ levelsOf b → q ≡ p → same ≡ true
+  pub only-if-equal : number ≡ 0 → same ≡ true → (levelsOf a ≡ levelsOf b) × (q ≡ p)
+  pub beside-refusal : (number ≡ 0 → ⊥) → same ≡ false
