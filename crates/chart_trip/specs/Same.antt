@@ -8,19 +8,35 @@ use Rattle.rules.specs.Records.{Quotes, levelsOf}
 use Rattle.rules.specs.File.{writeRefusal, bufferAfter}
 use Rattle.rules.specs.Claims.{SameFile}
 
+-- a chart that is to be written, its bars, and the buffer that is lent for it
+pub record Writing : Type 0 where
+  pub chart : Chart
+  pub bars : Quotes
+  pub buffer : List ℕ
+
+unfoldable pub refusalOf : Writing → ℕ
+refusalOf w = writeRefusal (w .chart) (w .bars) (w .buffer)
+
 -- the first writing's refusal, else the second's
-unfoldable pub sameRefusal : Chart → Quotes → List ℕ → Chart → Quotes → List ℕ → ℕ
-sameRefusal a q first b p second = elim (writeRefusal a q first) [ zero ↦ writeRefusal b p second | suc k ↦ suc k ]
+unfoldable pub sameRefusal : Writing → Writing → ℕ
+sameRefusal v w = elim (refusalOf v) [ zero ↦ refusalOf w | suc k ↦ suc k ]
 
 -- a buffer afterwards, by that number: where either writing is refused, neither buffer is written
-unfoldable pub fileAfter : ℕ → Chart → Quotes → List ℕ → List ℕ
-fileAfter zero c q buffer = bufferAfter c q buffer
-fileAfter (suc k) c q buffer = buffer
+unfoldable pub fileAfter : ℕ → Writing → List ℕ
+fileAfter zero w = bufferAfter (w .chart) (w .bars) (w .buffer)
+fileAfter (suc k) w = w .buffer
 
--- Where the number is 0, equal files are those of equal levels and bars, and `same` says whether the two are: "Charts equal in their four levels, with
--- equal bars, then give equal files, and the reverse". Beside a refusal it is false
-pub record Compared (a : Chart) (q : Quotes) (b : Chart) (p : Quotes) (number : ℕ) (same : Bool) : Type 0 where
-  pub files : number ≡ 0 → SameFile (levelsOf a) q (levelsOf b) p
-  pub if-equal : number ≡ 0 → levelsOf a ≡ levelsOf b → q ≡ p → same ≡ true
-  pub only-if-equal : number ≡ 0 → same ≡ true → (levelsOf a ≡ levelsOf b) × (q ≡ p)
+-- the same levels and bars; what lies behind a level's count is no part of the chart
+abbrev pub Equal : Writing → Writing → Type 0
+Equal v w = (levelsOf (v .chart) ≡ levelsOf (w .chart)) × (v .bars ≡ w .bars)
+
+-- Two charts compared by their files: the number, whether the files are equal, and both buffers afterwards. "Charts equal in their four levels, with
+-- equal bars, then give equal files, and the reverse": where the number is 0, `same` is true exactly if they are. Beside a refusal it is false
+pub record Compared (v w : Writing) (number : ℕ) (same : Bool) (first second : List ℕ) : Type 0 where
+  pub number-is : number ≡ sameRefusal v w
+  pub if-equal : number ≡ 0 → Equal v w → same ≡ true
+  pub only-if-equal : number ≡ 0 → same ≡ true → Equal v w
+  pub files : number ≡ 0 → SameFile (levelsOf (v .chart)) (v .bars) (levelsOf (w .chart)) (w .bars)
   pub beside-refusal : (number ≡ 0 → ⊥) → same ≡ false
+  pub first-is : first ≡ fileAfter number v
+  pub second-is : second ≡ fileAfter number w

@@ -6,7 +6,7 @@ ghost use Rattle.rules.specs.Records.{Quotes};
 ghost use Rattle.rules.specs.File.{slicesAfter, bufferAfter};
 ghost use Rattle.chart_read.specs.Loaded.{loaded};
 ghost use Rattle.chart_trip.specs.Trip.{tripCall, ReadsBack};
-ghost use Rattle.chart_trip.specs.Same.{sameRefusal, fileAfter, Compared};
+ghost use Rattle.chart_trip.specs.Same.{Writing, sameRefusal, Compared};
 
 // Writes a chart with its bars into the buffer and reads the bytes written into other slices. A refused writing gives its number, with
 // place 0, and leaves the slices as they were. Beside a refusal the chart and the number of bars are free. Where nothing is refused and there
@@ -58,7 +58,9 @@ fn same_refusal(
     ensures { λ r.
         let q : Quotes = record { highs = now («a_highs» .entry); lows = now («a_lows» .entry) } in
         let p : Quotes = record { highs = now («b_highs» .entry); lows = now («b_lows» .entry) } in
-        ⌜ r ≡ sameRefusal a q (now (first .entry)) b p (now (second .entry)) ⌝ }
+        let v : Writing = record { chart = a; bars = q; buffer = now (first .entry) } in
+        let w : Writing = record { chart = b; bars = p; buffer = now (second .entry) } in
+        ⌜ r ≡ sameRefusal v w ⌝ }
 {
     let number = chart_write::refusal(a, a_highs, a_lows, first);
     if number != 0 {
@@ -88,10 +90,9 @@ pub fn same_files(
     ensures { λ r.
         let q : Quotes = record { highs = now («a_highs» .entry); lows = now («a_lows» .entry) } in
         let p : Quotes = record { highs = now («b_highs» .entry); lows = now («b_lows» .entry) } in
-        ⌜ (r .number ≡ sameRefusal a q (now (first .entry)) b p (now (second .entry)))
-        × Compared a q b p (r .number) (r .same)
-        × (now (first .exit) ≡ fileAfter (r .number) a q (now (first .entry)))
-        × (now (second .exit) ≡ fileAfter (r .number) b p (now (second .entry))) ⌝ }
+        let v : Writing = record { chart = a; bars = q; buffer = now (first .entry) } in
+        let w : Writing = record { chart = b; bars = p; buffer = now (second .entry) } in
+        ⌜ Compared v w (r .number) (r .same) (now (first .exit)) (now (second .exit)) ⌝ }
 {
     let number = same_refusal(
         a,

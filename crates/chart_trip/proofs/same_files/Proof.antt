@@ -22,16 +22,16 @@ start c = c .before .before .before .before .before .before .before .before .bef
 first-0 : (c : tie.After-write-chart) → c .write-chart .result .number ≡ 0
 first-0 c =
     let e = sym (accepted c .before .same-refusal .ensures) ∙ accepted c .if1 .left in
-    number-is _ _ _ _ _ (c .write-chart .ensures .0) ∙ both-accepted _ _ _ _ _ _ e .0
+    number-is _ _ _ _ _ (c .write-chart .ensures .0) ∙ both-accepted _ _ e .0
 
 second-0 : (c : tie.After-write-chart2) → c .write-chart2 .result .number ≡ 0
 second-0 c =
     let go = accepted (wrote-1 c) in
     let e = sym (go .before .same-refusal .ensures) ∙ go .if1 .left in
-    number-is _ _ _ _ _ (c .write-chart2 .ensures .0) ∙ both-accepted _ _ _ _ _ _ e .1
+    number-is _ _ _ _ _ (c .write-chart2 .ensures .0) ∙ both-accepted _ _ e .1
 
 returns : tie.Need-returns
-returns c = refused-files _ _ _ _ _ _ _ (c .if1 .taken) (c .before .same-refusal .ensures)
+returns c = refused-files _ _ _ (c .if1 .taken) (c .before .same-refusal .ensures)
 
 slice-reshare-prefix-same : tie.Need-slice-reshare-prefix-same
 slice-reshare-prefix-same c =
@@ -59,7 +59,7 @@ returns-2 c =
     let w = second .write-chart2 .ensures in
     let go = accepted first in
     let good = start go .good in
-    written-files _ _ _ _ _ _ (sym (go .before .same-refusal .ensures) ∙ go .if1 .left) (narrow-levels _ _ (good .0))
+    written-files _ _ (sym (go .before .same-refusal .ensures) ∙ go .if1 .left) (narrow-levels _ _ (good .0))
     (narrow-levels _ _ (good .1 .1 .1 .0)) _ _ _ _ _
     (bytes-written _ _ _ _ _ _ (v .0) (v .1 .0) (first-0 first))
     (bytes-written _ _ _ _ _ _ (w .0) (w .1 .0) (second-0 second))
