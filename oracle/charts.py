@@ -12,7 +12,7 @@ class Chart:
         return [[b"BR" + struct.pack("<dd", h, l) for h, l in self.bars], [b"ST" + struct.pack("<BHHdd", *s) for s in self.strokes]] + [[mark + struct.pack("<BHH", *t) for t in level] for mark, level in triples]
 
     def pack(self):
-        """request 7 of 02: "a writer puts BR first, then strokes (ST or SR), SG, BG, SU\""""
+        """in the order of request 7 of 02: BR first, then strokes (ST or SR), SG, BG, SU"""
         return b"".join(b"".join(k) for k in self.kinds())
 
     def parts(self):
