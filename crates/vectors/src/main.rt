@@ -27,25 +27,14 @@ fn print_first(bytes: &[u8], n: usize) {
     }
 }
 
-// The chart with its first n bars.
-fn write_first(chart: chart::Chart, highs: &[f64], lows: &[f64], n: usize) {
-    if highs.len() < n {
-        return;
-    }
-    if lows.len() < n {
-        return;
-    }
-    let mut buffer = io::large_buffer();
-    let done = chart_write::write_chart(chart, &highs[..n], &lows[..n], &mut buffer);
-    print_first(&buffer, done.count);
-}
-
-// Bars, strokes, segments, bigs, superiors.
 fn rewrite(file: &[u8]) {
     let mut highs = [0.0; 2048];
     let mut lows = [0.0; 2048];
     let read = chart_read::read_chart(file, &mut highs, &mut lows);
-    write_first(read.chart, &highs, &lows, read.bars);
+    let n = printing::filled(read.bars, 2048);
+    let mut buffer = io::large_buffer();
+    let done = chart_write::write_chart(read.chart, &highs[..n], &lows[..n], &mut buffer);
+    print_first(&buffer, done.count);
 }
 
 // ---- two chart files compared
@@ -84,14 +73,8 @@ fn compare_files(one: &[u8], two: &[u8], m: usize, n: usize)
     let mut b_lows = [0.0; 2048];
     let a = chart_read::read_chart(one, &mut a_highs, &mut a_lows);
     let b = chart_read::read_chart(two, &mut b_highs, &mut b_lows);
-    let i = a.bars;
-    let k = b.bars;
-    if 2048 < i {
-        return;
-    }
-    if 2048 < k {
-        return;
-    }
+    let i = printing::filled(a.bars, 2048);
+    let k = printing::filled(b.bars, 2048);
     let mut first = all_ones();
     let mut second = all_ones();
     print_same(
