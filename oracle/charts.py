@@ -1,5 +1,8 @@
-"""Charts as Python values, packed into chart files (document 01, "Chart file"), and a generator with a seed."""
-import random, struct, subprocess
+"""Charts as Python values, with bars lent to them; chart files and bars files of them (document 01, "Chart file", and 02, requests 7 and 14); and a
+generator with a seed. Two files are a pair: the chart file and the bars file."""
+import random, struct
+import bars_file
+from bars_file import ODD_BITS
 
 class Chart:
     """strokes: (direction, start bar, end bar, start price, end price); the other levels: (direction, first, last); bars: (high, low)"""
@@ -7,17 +10,20 @@ class Chart:
         self.strokes, self.segments, self.bigs, self.superiors, self.bars = map(list, (strokes, segments, bigs, superiors, bars))
 
     def kinds(self):
-        """the records of each kind: bars, strokes, segments, bigs, superiors"""
+        """the records of each kind: strokes, segments, bigs, superiors"""
         triples = ((b"SG", self.segments), (b"BG", self.bigs), (b"SU", self.superiors))
-        return [[b"BR" + struct.pack("<dd", h, l) for h, l in self.bars], [b"ST" + struct.pack("<BHHdd", *s) for s in self.strokes]] + [[mark + struct.pack("<BHH", *t) for t in level] for mark, level in triples]
+        return [[b"ST" + struct.pack("<BHHdd", *s) for s in self.strokes]] + [[mark + struct.pack("<BHH", *t) for t in level] for mark, level in triples]
 
     def pack(self):
-        """in the order of request 7 of 02: BR first, then strokes (ST or SR), SG, BG, SU"""
+        """in the order of request 7 of 02: strokes, SG, BG, SU; by request 14 without bars"""
         return b"".join(b"".join(k) for k in self.kinds())
 
+    def files(self):
+        return self.pack(), bars_pack(self.bars)
+
     def parts(self):
-        """what two charts must have in common to be equal, with their bars"""
-        return self.strokes, self.segments, self.bigs, self.superiors, self.bars
+        """what two charts must have in common to be equal"""
+        return self.strokes, self.segments, self.bigs, self.superiors
 
     def mingled(self, r):
         """the same records with the kinds mingled, each kind in its order"""
@@ -27,25 +33,22 @@ class Chart:
         rows = [iter(k) for k in kinds]
         return b"".join(next(rows[i]) for i in order)
 
-def behind_lengths(files):
-    """many files in one: each its length (u32) and its bytes"""
-    return b"".join(struct.pack("<I", len(f)) + f for f in files)
+    def before_14(self):
+        """the file as it was written before request 14: BR first"""
+        return b"".join(b"BR" + struct.pack("<dd", *b) for b in self.bars) + self.pack()
 
-# of the stored cases of the program vectors; the number of a kind is its place
-KINDS = [b"UNKNOWN", b"REPORT", b"REWRITE", b"REPLAY", b"SAME"]
+def bars_pack(bars):
+    """the bars file of bars (high, low)"""
+    return bars_file.pack(tuple(map(bars_file.bits, b)) for b in bars)
 
-def stream(cases):
-    """cases, each of them its kind, its bytes and perhaps more, in one: the kind's number (a byte), the length (u32) and the bytes"""
-    return b"".join(struct.pack("<BI", KINDS.index(kind), len(case)) + case for kind, case, *_ in cases)
+def to_report(pair):
+    """two files as a case of the kind REPORT: the length of the chart file (u32), and both"""
+    return struct.pack("<I", len(pair[0])) + b"".join(pair)
 
-def cases(data):
-    """kind and bytes of the cases of a stream, but of one that is cut short"""
-    out, at = [], 0
-    while at + 5 <= len(data):
-        kind, n = struct.unpack_from("<BI", data, at)
-        out.append((KINDS[kind], data[at + 5:at + 5 + n]))
-        at += 5 + n
-    return out if at == len(data) else out[:-1]
+def reported(case):
+    """the two files of such a case"""
+    n = 4 + int.from_bytes(case[:4], "little")
+    return case[4:n], case[n:]
 
 def rewritten(chart):
     """what vectors prints of a file with this chart: the byte count and the file in order"""
@@ -56,14 +59,14 @@ def to_compare(first, second, m, n):
     return struct.pack("<HHH", m, n, len(first)) + first + second
 
 def compared(a, b, m, n):
-    """what it prints of two charts: the number, whether the files are equal, and buffers of m and n bytes 255, both as found on a refusal"""
+    """what it prints of two charts: the number, whether they are equal, and buffers of m and n bytes 255, both as found on a refusal"""
     number = 3 if m < len(a.pack()) or n < len(b.pack()) else 0
     files = (b"", b"") if number else (a.pack(), b.pack())
     buffers = [f + b"\xff" * (size - len(f)) for f, size in zip(files, (m, n))]
     return b"NUMBER %d\nEQUAL %d\n" % (number, number == 0 and a.parts() == b.parts()) + b"".join(b"BYTES %d\n" % len(f) + f for f in buffers)
 
 # what `report` prints, in its order, as oracle/main.rs names it
-SECTIONS = ["ranges", "zones", "third", "threen", "labels", "classes", "firsts"]
+SECTIONS = ["passed", "ranges", "zones", "third", "threen", "labels", "classes", "firsts"]
 
 def turns(points, up=True):
     """strokes from turn (bar, price) to turn"""
@@ -298,7 +301,8 @@ def full(superiors, seed=1, bars=0, first=4):
         price += (r.randrange(50, 1050) / 100) * (1 if i % 2 == 0 else -1)
         pts.append((4 * i + first, price))
     s = turns(pts)
-    return Chart(s, [(1 - i % 2, 2 * i, 2 * i + 1) for i in range(256)], [(1 - i % 2, i, i) for i in range(256)], superiors, [(r.choice(pts)[1], r.choice(pts)[1]) for _ in range(bars)])
+    segments, bigs = [(1 - i % 2, 2 * i, 2 * i + 1) for i in range(256)], [(1 - i % 2, i, i) for i in range(256)]
+    return Chart(s, segments, bigs, superiors, [(r.choice(pts)[1], r.choice(pts)[1]) for _ in range(bars)])
 
 def alternating(n, width, first=0):
     """n superiors of this many bigs each from the big `first` on, up first"""
@@ -414,7 +418,8 @@ def wild(r):
     def near(n):
         a = r.randrange(0, max(n, 1))
         return (r.randrange(2), a, min(a + r.randrange(0, 3), max(n - 1, 0))) if r.random() < 0.9 else triple(n)
-    return Chart([(r.randrange(2), bar(), bar(), price(), price()) for _ in range(n)], [near(n) for _ in range(m)], [near(m) for _ in range(k)], [triple(k) for _ in range(u)])
+    strokes = [(r.randrange(2), bar(), bar(), price(), price()) for _ in range(n)]
+    return Chart(strokes, [near(n) for _ in range(m)], [near(m) for _ in range(k)], [triple(k) for _ in range(u)])
 
 def third_like(r):
     """bigs of one stroke each under superiors that mostly leave some bigs before the first; at times bars in no order, a big turned, ranges or end
@@ -508,7 +513,10 @@ def special():
     odd = simple(K_TURNS, [(1, 65535, 4), (1, 0, 65535), (1, 65535, 65535), (0, 5, 2), (1, 0, 8), (1, 1, 1)])
     short = chart_k()
     short.bars = short.bars[:29]
-    return [Chart(), chart_k(), chart_k(20.0), short, touching(), three_members(), of_one(1), of_one(255), of_one(256), too_many(), far_too_many(), overlapping, missing, odd, named(256)] + [full(s, bars=1024 * (name == "short")) for name, s in SHAPES.items()] + for_classes() + THIRDS + [mirrored(c) for c in THIRDS] + [many_thirds()] + NUMBERED + [mirrored(c) for c in NUMBERED] + outside() + bars_and_zones() + [all_bars()]
+    zones = [touching(), three_members(), of_one(1), of_one(255), of_one(256), too_many(), far_too_many(), overlapping, missing, odd, named(256)]
+    shapes = [full(s, bars=1024 * (name == "short")) for name, s in SHAPES.items()]
+    marks = THIRDS + [mirrored(c) for c in THIRDS] + [many_thirds()] + NUMBERED + [mirrored(c) for c in NUMBERED]
+    return [Chart(), chart_k(), chart_k(20.0), short] + zones + shapes + for_classes() + marks + outside() + bars_and_zones() + [all_bars()]
 
 def for_classes():
     """first marks of each side, in and out of order and at one bar; the borders of each comparison; 1, 2 and 6 items (6: P5); one or two, the last of
@@ -520,45 +528,9 @@ def for_classes():
 
 # ---- files
 
-ODD_BITS = [0x7FF0000000000000, 0xFFF0000000000000, 0x8000000000000000, 0x7FF8000000000000, 0xFFF8000000000001, 0x7FF0000000000001]
-
-def damaged(r, data):
-    data = bytearray(data)
-    """cut, changed, shortened, lengthened, with an odd price at the end, or with a record too many"""
-    how = r.randrange(6)
-    if how == 0 or len(data) < 9:
-        return bytes(data[:r.randrange(len(data) + 1)])
-    at = r.randrange(len(data))
-    if how == 1:
-        data[at] = r.randrange(256)
-    elif how == 2:
-        del data[at]
-    elif how == 3:
-        data[at:at] = bytes([r.choice(b"STGBURxyz\0\xff")])
-    elif how == 4:
-        data[-8:] = r.choice(ODD_BITS).to_bytes(8, "little")
-    else:
-        mark, size, most = r.choice([(b"ST", 23, 513), (b"SG", 7, 257), (b"BG", 7, 257), (b"SU", 7, 257), (b"BR", 18, 2049)])
-        data += (mark + bytes(size - 2)) * most
-    return bytes(data)
-
-def small_file():
-    """a record of each kind at least, with a zone and a third mark"""
-    s = [(1, 0, 1, 1.0, 2.0), (0, 1, 0, 2.0, 1.0)]
-    return Chart(s, one_each(s), one_each(s), [(1, 0, 1)], [(4.0, 3.0)]).pack()
-
-def numbered_file():
-    """a record of each kind at least, with a third mark and one of order 1"""
-    s = [(0, 0, 0, 1.0, 0.0), (1, 0, 0, 0.0, 0.0), (1, 0, 0, 0.0, 0.0), (0, 0, 1, 0.0, 0.0)]
-    return Chart(s, one_each(s), one_each(s), [(1, 0, 0)], [(4.0, 3.0), (4.0, 3.0)]).pack()
-
-def each_byte(data):
-    """every truncation and every change of one byte"""
-    return [data[:n] for n in range(len(data) + 1)] + [data[:i] + bytes([b]) + data[i + 1:] for i in range(len(data)) for b in range(256) if b != data[i]]
-
-WIDTHS = {b"ST": 23, b"SG": 7, b"BG": 7, b"SU": 7, b"BR": 18}
+WIDTHS = {b"ST": 23, b"SG": 7, b"BG": 7, b"SU": 7, b"BR": 18, b"HL": 20}
 # the kind whose records name those of a kind, by two numbers behind the direction
-NAMING = {b"BR": b"ST", b"ST": b"SG", b"SG": b"BG", b"BG": b"SU"}
+NAMING = {b"HL": b"ST", b"ST": b"SG", b"SG": b"BG", b"BG": b"SU"}
 
 def records(data):
     """a file cut into its records; what is behind the last good one is the last part"""
@@ -569,9 +541,100 @@ def records(data):
         data = data[n:]
     return out
 
+def unpacked(data, bars=b""):
+    """the chart in a file that is not refused, and the bars in one that is not"""
+    c = Chart(bars=[tuple(map(bars_file.value, b)) for b in bars_file.read(bars, bars_file.MOST)])
+    levels = {b"SG": c.segments, b"BG": c.bigs, b"SU": c.superiors}
+    for p in records(data):
+        if p[:2] == b"ST":
+            c.strokes.append(struct.unpack("<BHHdd", p[2:]))
+        elif p[:2] != b"BR":
+            levels[p[:2]].append(struct.unpack("<BHH", p[2:]))
+    return c
+
+def any_bar(r):
+    """a BR with any bytes behind it: prices, odd prices, marks of other records, or bytes"""
+    return b"BR" + r.choice([struct.pack("<dd", 2.0, 1.0), struct.pack("<QQ", *r.choices(ODD_BITS, k=2)), r.choice([*WIDTHS]) * 8, r.randbytes(16)])
+
+def old(r, data):
+    """an old file: BR anywhere among the records of a file"""
+    parts = records(data)
+    for _ in range(r.choice([1, 1, 2, 3, r.randrange(40)])):
+        parts.insert(r.randrange(len(parts) + 1), any_bar(r))
+    return b"".join(parts)
+
+def generated_files(seed, i):
+    """the files of a generated chart; in a quarter the chart file is an old one, with its bars as they were written or with BR anywhere"""
+    r, c = random.Random(f"files {seed} {i}"), generated(seed, i)
+    how = r.random()
+    return c.before_14() if how < 0.1 else old(r, c.mingled(r)) if how < 0.25 else c.pack(), bars_pack(c.bars)
+
+def filled_to(n, data):
+    """a file with more records, up to n bytes: SG, of which 13 leave one byte over whole BR, and BR with NaN"""
+    left = n - len(data)
+    segments = 13 * left % 18
+    return data + (b"SG" + bytes(5)) * segments + (b"BR" + b"\xff" * 16) * ((left - 7 * segments) // 18)
+
+def small_files():
+    """a record of each kind at least, BR and HL too, with a zone and a third mark"""
+    s = [(1, 0, 1, 1.0, 2.0), (0, 1, 0, 2.0, 1.0)]
+    return with_a_bar(Chart(s, one_each(s), one_each(s), [(1, 0, 1)], [(4.0, 3.0)]))
+
+def numbered_files():
+    """a record of each kind at least, with a third mark and one of order 1"""
+    s = [(0, 0, 0, 1.0, 0.0), (1, 0, 0, 0.0, 0.0), (1, 0, 0, 0.0, 0.0), (0, 0, 1, 0.0, 0.0)]
+    return with_a_bar(Chart(s, one_each(s), one_each(s), [(1, 0, 0)], [(4.0, 3.0), (4.0, 3.0)]))
+
+def with_a_bar(c):
+    """the files of a chart, the first with a BR of NaN behind its strokes"""
+    n = 23 * len(c.strokes)
+    return c.pack()[:n] + b"BR" + b"\xff" * 16 + c.pack()[n:], bars_pack(c.bars)
+
+def each_byte(data):
+    """every truncation and every change of one byte"""
+    return [data[:n] for n in range(len(data) + 1)] + [data[:i] + bytes([b]) + data[i + 1:] for i in range(len(data)) for b in range(256) if b != data[i]]
+
+def cuts(pair):
+    """every truncation of either file"""
+    return [(pair[0][:n], pair[1]) for n in range(len(pair[0]) + 1)] + [(pair[0], pair[1][:n]) for n in range(len(pair[1]))]
+
+def each_byte_of_two(pair):
+    """every truncation and every change of one byte of either file"""
+    return [(f, pair[1]) for f in each_byte(pair[0])] + [(pair[0], f) for f in each_byte(pair[1])]
+
+def around_k():
+    """empty files; K's old one; a refusal in either of K's files, or in both; a record of the other file in each"""
+    chart, bars = chart_k().files()
+    out = [(b"", b""), (b"", bars), (chart, b""), (chart_k().before_14(), bars), (chart[:-1], bars[:-1]), (chart + b"BR", b"x"), (chart, b"x" + bars)]
+    return out + [(chart + bars[:20], bars), (bars, bars), (chart, bars + chart[:23]), (chart, chart)]
+
+def many_bars():
+    """bars files of 2,048 bars and a bar more, its number right or wrong, or a part of it, or less"""
+    most, full_bars = all_bars().files()
+    over = [bars_file.record((0, 0), n) for n in (2048, 2047, 2049, 0, 65535)]
+    over += [b"", over[0][:-1], over[2][:-1], bars_file.record((bars_file.NAN, 0), 2048), b"H", b"HM" + over[0][2:], over[0] * 1300, b"HL" * 40000]
+    return [(most, full_bars + more) for more in over]
+
+def long_charts():
+    """chart files of 65,536 bytes and of one more or fewer, whatever stands in them"""
+    chart, bars = chart_k().files()
+    long = filled_to(65536, chart)
+    return [(f, bars) for f in (long, long[:-1], long + b"B", b"x" + long)]
+
+def longer_charts():
+    """more of them, with bars that are refused, and without a bar"""
+    long, bars = long_charts()[0]
+    others = long[:-18] + b"SG" + bytes(16), b"x" * 65536, b"x" * 65537, long + long, b"ST\2" + long[3:]
+    return [(f, b) for f in (long, long + b"B", *others) for b in (bars, bars[:-1], b"")]
+
+def at_limits(): return around_k() + many_bars() + long_charts() + longer_charts()
+
+def shown(data):
+    """a file in hexadecimal digits, or how it starts"""
+    return f"({len(data)} bytes) {data[:500].hex()}"
+
 # the fields of a record, by the byte at which each starts and its size
-FIELDS = {b"ST": [(2, 1), (3, 2), (5, 2), (7, 8), (15, 8)], b"BR": [(2, 8), (10, 8)]}
-FIELDS.update({mark: [(2, 1), (3, 2), (5, 2)] for mark in (b"SG", b"BG", b"SU")})
+FIELDS = {b"ST": [(2, 1), (3, 2), (5, 2), (7, 8), (15, 8)], **{mark: [(2, 1), (3, 2), (5, 2)] for mark in (b"SG", b"BG", b"SU")}}
 
 def one_bit(r, record):
     """the record with one bit of a field changed, for each field in turn; none is refused"""
@@ -579,86 +642,114 @@ def one_bit(r, record):
         value = int.from_bytes(record[at:at + size], "little")
         while True:
             new = value ^ 1 << (0 if size == 1 else r.randrange(8 * size))
-            if size < 8 or new >> 52 & 2047 != 2047 and new != 1 << 63:
+            if size < 8 or bars_file.is_price(new):
                 break
         yield record[:at] + new.to_bytes(size, "little") + record[at + size:]
-
-def unpacked(data):
-    """the chart in a file that is not refused"""
-    c = Chart()
-    levels = {b"SG": c.segments, b"BG": c.bigs, b"SU": c.superiors}
-    for p in records(data):
-        if p[:2] == b"BR":
-            c.bars.append(struct.unpack("<dd", p[2:]))
-        elif p[:2] == b"ST":
-            c.strokes.append(struct.unpack("<BHHdd", p[2:]))
-        else:
-            levels[p[:2]].append(struct.unpack("<BHH", p[2:]))
-    return c
 
 def changed(r, data):
     """the charts of a file with one bit of one field changed, for each field in turn"""
     parts = records(data)
     return [unpacked(b"".join(parts[:k] + [p] + parts[k + 1:])) for k, q in enumerate(parts) for p in one_bit(r, q)]
 
-def pairs(r):
-    """pairs of charts to compare, with the sizes of two buffers: equal ones; those that differ in one bit of a field, in a record's level, in the
-    order or number of records, at the very end; buffers that are large enough, exactly or by some bytes, or too short"""
-    base, k, most = unpacked(small_file()), chart_k(), full(SHAPES["short"], bars=2048)
+def comparisons(r):
+    """charts to compare, two each with the sizes of two buffers: equal ones; those that differ in one bit of a field, in a record's level, in the order
+    or number of records, at the very end; buffers that are large enough, exactly or by some bytes, or too short"""
+    base, k, most = unpacked(small_files()[0]), chart_k(), full(SHAPES["short"])
     tail = unpacked(most.pack())
     tail.superiors[-1] = (1 - tail.superiors[-1][0], *tail.superiors[-1][1:])
     t = (1, 0, 0)
-    differ = [(base, c) for c in changed(r, small_file())] + [(most, tail)]
+    bits = [(base, c) for c in changed(r, base.pack())]
+    differ = bits + [(most, tail), (Chart(), base), (base, Chart(base.strokes[::-1], *base.parts()[1:])), (base, Chart(*base.parts()[:3]))]
     differ += [(Chart(segments=[t]), Chart(bigs=[t])), (Chart(bigs=[t]), Chart(superiors=[t])), (Chart(segments=[t]), Chart(segments=[t] * 2))]
-    differ += [(Chart(bars=[(2.0, 1.0)]), Chart(bars=[(1.0, 2.0)])), (base, Chart(*base.parts()[:4])), (Chart(), base)]
-    differ += [(base, Chart(base.strokes[::-1], *base.parts()[1:])), (base, Chart(*base.parts()[:3], [], base.bars))]
     equal = [(c, c) for c in [Chart(), base, k, *(generated(4, i) for i in range(12))]]
-    exact = [(a, b, len(a.pack()), len(b.pack())) for a, b in equal + differ + [(b, a) for a, b in differ[:27]]]
+    exact = [(a, b, len(a.pack()), len(b.pack())) for a, b in equal + differ + [(b, a) for a, b in bits]]
     wider = [(a, b, m + r.randrange(9), n + r.randrange(9)) for a, b, m, n in exact[:40]]
     short = [(a, b, m - x, n - y) for a, b, m, n in exact[:20] for x, y in ((1, 0), (0, 1), (1, 1), (m, 0)) if x <= m and y <= n and x + y]
     return exact + wider + short
 
+# ---- the smallest pair
+
+def lowered(p, mark, place):
+    """a record, behind one of a kind at a place that is left out: numbers that name one behind that are one lower"""
+    at = 2 if p[:2] == mark == b"HL" else 3 if p[:2] == NAMING.get(mark) else None
+    if at is None or len(p) != WIDTHS[p[:2]]:
+        return p
+    end = at + 2 if at == 2 else at + 4
+    numbers = (int.from_bytes(p[k:k + 2], "little") for k in range(at, end, 2))
+    return p[:at] + b"".join(struct.pack("<H", i - (i > place)) for i in numbers) + p[end:]
+
 def without(parts, k):
-    """records without the one at k; numbers that name one behind it are one lower"""
-    mark = parts[k][:2]
-    place = sum(p[:2] == mark for p in parts[:k])
-    def lowered(p):
-        if p[:2] != NAMING.get(mark) or len(p) != WIDTHS[p[:2]]:
-            return p
-        return p[:3] + struct.pack("<HH", *(i - (i > place) for i in struct.unpack("<HH", p[3:7]))) + p[7:]
-    return [lowered(p) for i, p in enumerate(parts) if i != k]
+    """records of two files, each with its file, without the one at k"""
+    mark = parts[k][1][:2]
+    place = sum(p[:2] == mark for _, p in parts[:k])
+    return [(file, lowered(p, mark, place)) for i, (file, p) in enumerate(parts) if i != k]
 
-def printed(program, data):
-    """what a program prints for a file; where it does not end within 20 seconds or ends otherwise than with 0, that too"""
-    try:
-        run = subprocess.run([program], input=data, capture_output=True, timeout=20)
-    except subprocess.TimeoutExpired:
-        return b"no end\n"
-    return run.stdout + (b"ended with %d\n" % run.returncode if run.returncode else b"")
+def joined(parts): return tuple(b"".join(p for file, p in parts if file == k) for k in (0, 1))
 
-def shrunk(data, differs):
-    """a file that still differs: drops records, from the last to the first, and then stretches of bytes"""
-    parts = records(data)
-    for k in [*reversed(range(len(parts)))] * 2:
-        if k < len(parts) and differs(b"".join(without(parts, k))):
-            parts = without(parts, k)
-    data = b"".join(parts)
-    size = len(data) // 2
-    while size:
+def plainly(parts, at, size): return parts[:at] + parts[at + size:]
+
+def fewer(parts, left_out, differs):
+    """stretches of parts left out, long ones first, while the two still differ"""
+    size = max(1, len(parts) // 2)
+    while size and parts:
         at = 0
-        while at < len(data):
-            less = data[:at] + data[at + size:]
+        while at < len(parts):
+            less = left_out(parts, at, size)
             if differs(less):
-                data = less
+                parts = less
             else:
                 at += size
         size //= 2
-    return data
+    return parts
 
-# ---- files for the program marks
+def shrunk(pair, differs):
+    """two files that still differ: drops records of either, from the last to the first, and then stretches of bytes"""
+    parts = [(k, p) for k in (0, 1) for p in records(pair[k])]
+    for k in [*reversed(range(len(parts)))] * 2:
+        if k < len(parts) and differs(joined(without(parts, k))):
+            parts = without(parts, k)
+    chart, bars = joined(parts)
+    chart = fewer(chart, plainly, lambda less: differs((less, bars)))
+    return chart, fewer(bars, plainly, lambda less: differs((chart, less)))
+
+# ---- damaged files, and more files for the program marks
+
+def damaged(r, data, more):
+    """cut, changed, shortened, lengthened, with an odd price at the end, or with more behind it"""
+    data, how = bytearray(data), r.randrange(6)
+    if how == 0 or len(data) < 9:
+        return bytes(data[:r.randrange(len(data) + 1)])
+    at = r.randrange(len(data))
+    if how == 1:
+        data[at] = r.randrange(256)
+    elif how == 2:
+        del data[at]
+    elif how == 3:
+        data[at:at] = bytes([r.choice(b"STGBURHLxyz\0\xff")])
+    elif how == 4:
+        data[-8:] = r.choice(ODD_BITS).to_bytes(8, "little")
+    else:
+        data += more
+    return bytes(data)
+
+def too_many_records(r):
+    """of a kind, or more BR than a file has room for"""
+    mark, n = r.choice([(b"ST", 513), (b"SG", 257), (b"BG", 257), (b"SU", 257), (b"BR", 3641)])
+    return (mark + bytes(WIDTHS[mark] - 2)) * n
+
+def too_many_bars(r, data):
+    """behind those of a file, up to the 2,049th; at times one is left out"""
+    first = len(data) // 20 + (r.random() < 0.3)
+    return b"".join(bars_file.record((0, 0), n) for n in range(first, 2049))
+
+def damaged_files(r, pair):
+    """one of two files damaged, or both"""
+    which = r.choice(["chart", "chart", "bars", "bars", "both"])
+    chart = pair[0] if which == "bars" else damaged(r, pair[0], too_many_records(r))
+    return chart, pair[1] if which == "chart" else damaged(r, pair[1], too_many_bars(r, pair[1]))
 
 def spoilt(r, data):
-    """one record, or two, with a wrong direction, an odd price, both, another mark, or cut"""
+    """one record, or two, with a wrong direction or bar number, an odd price, both, another mark, or cut"""
     parts = records(data)
     for _ in range(r.choice([1, 1, 2])):
         k = r.randrange(len(parts)) if parts else 0
@@ -666,57 +757,79 @@ def spoilt(r, data):
         how = r.randrange(5)
         if how in (0, 2) and len(p) in (7, 23):
             p[2] = r.choice([2, 2, 255, r.randrange(2, 256)])
-        if how in (1, 2) and len(p) in (18, 23):
+        if how in (0, 2) and len(p) == 20:
+            p[2:4] = struct.pack("<H", r.choice([k + 1, max(0, k - 1), 0, 65535, r.randrange(65536)]))
+        if how in (1, 2) and len(p) in (18, 20, 23):
             at = len(p) - r.choice([8, 16])
             p[at:at + 8] = r.choice(ODD_BITS).to_bytes(8, "little")
         if how == 3:
-            p[:2] = r.choice([b"st", b"TS", b"BT", b"SS", b"\0\0", b"RB", *WIDTHS])
+            p[:2] = r.choice([b"st", b"TS", b"BT", b"SS", b"\0\0", b"RB", b"LH", *WIDTHS])
         if how == 4:
             del p[r.randrange(len(p) + 1):]
         parts[k:k + 1] = [bytes(p)]
     return b"".join(parts)
 
+def spoilt_files(r, pair):
+    """records of one of two files spoilt"""
+    return (spoilt(r, pair[0]), pair[1]) if r.random() < 0.6 else (pair[0], spoilt(r, pair[1]))
+
 def brim(r):
-    """a level or the bars full to the last place, or one record over, the last of them at times spoilt; at times all of them full"""
+    """a level or the bars full to the last place, or one record over, the last of them at times spoilt; at times all of them full, a chart file of
+    about 65,536 bytes, or a bars file that is longer"""
     c = full(r.choice([*SHAPES.values()]), r.randrange(9), 2048)
     c.strokes[-1] = (*c.strokes[-1][:2], 2047, *c.strokes[-1][3:])
-    rows = c.kinds()
-    rows[4] = rows[4] * (256 // len(rows[4]))
+    rows, bars = c.kinds(), bars_pack(c.bars)
+    rows[3] = rows[3] * (256 // len(rows[3]))
     if r.random() < 0.7:
         k = r.randrange(5)
         rows = [row if i == k else row[:r.randrange(9)] for i, row in enumerate(rows)]
-    data = b"".join(b"".join(row) for row in rows)
-    how = r.random()
+        bars = bars if k == 4 else bars[:20 * r.randrange(9)]
+    data, how = b"".join(b"".join(row) for row in rows), r.random()
     if how < 0.6:
-        last = r.choice([row for row in rows if row])[-1]
-        data += spoilt(r, last) if how < 0.3 else last
-    return data + r.choice([b"", b"", b"B", b"BR", bytes(r.randrange(20)), b"BR" * 40000])
+        last = r.choice([row[-1] for row in rows if row] + [bars_file.record((0, 0), len(bars) // 20)] * 2)
+        more = spoilt(r, last) if how < 0.3 else last
+        data, bars = (data, bars + more) if len(last) == 20 else (data + more, bars)
+    if r.random() < 0.3:
+        data = filled_to(65536 + r.choice([-1, 0, 0, 0, 1, 30]), data)
+    data += r.choice([b"", b"", b"B", b"BR", bytes(r.randrange(20)), b"BR" * 40000])
+    return data, bars + r.choice([b"", b"", b"", b"H", b"HL", bytes(r.randrange(20)), b"HL" * 40000])
+
+def any_bytes(r): return bytes(r.randrange(256) for _ in range(r.randrange(60)))
+
+def small_prices(r): return struct.pack("<dd", *(float(r.randrange(-3, 4)) for _ in range(2)))
 
 def random_records(r):
     """records of any kind with small numbers in them, or any bytes"""
     if r.random() < 0.2:
-        return bytes(r.randrange(256) for _ in range(r.randrange(60)))
+        return any_bytes(r)
     out = b""
     for _ in range(r.randrange(40)):
-        mark = r.choice([*WIDTHS])
+        mark = r.choice([b"ST", b"SG", b"BG", b"SU", b"BR"])
         field = lambda n: struct.pack("<H", r.choice([0, 1, 2, r.randrange(n)]))
         if mark == b"BR":
-            out += mark + struct.pack("<dd", *(float(r.randrange(-3, 4)) for _ in range(2)))
+            out += any_bar(r)
         else:
-            out += mark + bytes([r.choice([0, 0, 0, 1, 1, 1, r.randrange(3)])]) + field(9) + field(9)
-            if mark == b"ST":
-                out += struct.pack("<dd", *(float(r.randrange(-3, 4)) for _ in range(2)))
+            out += mark + bytes([r.choice([0, 0, 0, 1, 1, 1, r.randrange(3)])]) + field(9) + field(9) + small_prices(r) * (mark == b"ST")
     return out
 
+def random_bars(r):
+    """bars whose numbers are mostly in order, or any bytes"""
+    if r.random() < 0.2:
+        return any_bytes(r)
+    numbers = (i if r.random() < 0.98 else r.randrange(20) for i in range(r.randrange(20)))
+    return b"".join(b"HL" + struct.pack("<H", i) + small_prices(r) for i in numbers)
+
 def for_marks(seed, i):
-    """a file: a generated chart, its records in order or mingled, as it is, damaged or spoilt; a chart made for a purpose; or one of those above"""
+    """two files: of a generated chart, its records in order or mingled, in a quarter with BR among them, as they are, damaged or spoilt; of a chart made for
+    a purpose; or some of those above"""
     r = random.Random(f"marks {seed} {i}")
     how = r.random()
     if how < 0.02:
         return brim(r)
     if how < 0.07:
-        return random_records(r)
+        return random_records(r), random_bars(r)
     c = r.choice(NUMBERED + THIRDS) if how < 0.12 else generated(seed, i)
     c = mirrored(c) if how < 0.12 and r.random() < 0.5 else c
     data = c.mingled(r) if r.random() < 0.5 else c.pack()
-    return r.choices([data, damaged(r, data), spoilt(r, data)], [70, 15, 15])[0]
+    pair = old(r, data) if r.random() < 0.25 else data, bars_pack(c.bars)
+    return r.choices([pair, damaged_files(r, pair), spoilt_files(r, pair)], [70, 15, 15])[0]

@@ -4,6 +4,7 @@ superiors. Q is no call: its high and low are one more bar of the slices that th
 64 bits; comparisons are those of floats. SW holds the wrong readings that are on, as in model.py."""
 import struct
 import model
+from bars_file import value
 
 SIZES = (512, 256, 256, 256)
 MOST = 0xFFFFFFFF   # where the count stops
@@ -17,9 +18,6 @@ NAMES = ('stroke', 'segment', 'big', 'superior')
 ORDER = {'S': (3, 2, 1, 4, 14), 'G': (3, 2, 4, 5), 'B': (3, 2, 4, 5), 'U': (3, 2, 4, 5), 'L': (7, 4, 5), 'W': (2, 7, 6), 'D': (2, 6), 'E': (2, 6)}
 SW = set()
 def on(s): return s in SW
-
-DOUBLE, LONG = struct.Struct('<d'), struct.Struct('<Q')
-def value(bits): return DOUBLE.unpack(LONG.pack(bits))[0]
 
 def is_price(bits):
     """finite and not −0"""

@@ -1,12 +1,16 @@
 // Prints what the reference Rust gives for charts. Reading, the refusals, a zone's members and a third mark's ground, which the reference
-// lacks, are written here from document 01 alone, over the reference's ranges and end points. Of a third mark side, bar, price and place among
-// the rows are the reference's; the ground is that of `thirds`, 01's rule over the reference's zones, and its rows must be the reference's, or
-// this program panics.
-//   oracle one SECTION..   a chart file on standard input
-//   oracle many SECTION..  many: each a length (u32, little-endian) and that many bytes; a line `CHART i` before each
-// Sections: ranges zones third threen labels classes firsts
+// lacks, are written here from documents 01 and 02 (request 14) alone, over the reference's ranges and end points. Of a third mark side, bar,
+// price and place among the rows are the reference's; the ground is that of `thirds`, 01's rule over the reference's zones, and its rows must
+// be the reference's, or this program panics.
+//   oracle one CHART BARS SECTION..  a chart file and a bars file
+//   oracle many SECTION..            many on standard input: each file a length (u32, little-endian) and that many bytes; a line `CHART i` before each two
+// Sections: passed ranges zones third threen labels classes firsts
 use chanlun::{zhongshu as z, Stroke};
 use std::io::{Read, Write};
+
+// of the programs: bytes of a chart file, and bars
+const BYTES: usize = 65536;
+const BARS: usize = 2048;
 
 type Triple = (usize, usize, bool);
 
@@ -17,39 +21,70 @@ fn u16_at(b: &[u8], i: usize) -> usize { b[i] as usize + 256 * b[i + 1] as usize
 fn f64_at(b: &[u8], i: usize) -> f64 { f64::from_bits(u64::from_le_bytes(b[i..i + 8].try_into().unwrap())) }
 fn is_price(x: f64) -> bool { x.is_finite() && x.to_bits() != 1 << 63 }
 
-// 13 cut short; 12 unknown mark; 3 no place left; 2; 1; with the place of the record's mark
-fn read(b: &[u8], places: usize) -> Result<Chart, (usize, usize)> {
+// a refusal, with the place of its record's mark
+type Refusal = (usize, usize);
+
+// The four levels of a chart file, and how many BR records were passed over. 13 cut short; 12 unknown mark; 3 no place left; 2; 1
+fn read_chart(b: &[u8]) -> Result<(Chart, usize), Refusal> {
     let mut c = Chart::default();
-    let mut at = 0;
+    let (mut passed, mut at) = (0, 0);
     while at < b.len() {
         if b.len() - at < 2 { return Err((13, at)); }
-        let width = match &b[at..at + 2] { b"ST" => 21, b"SG" | b"BG" | b"SU" => 5, b"BR" => 16, _ => return Err((12, at)) };
+        let mark = &b[at..at + 2];
+        let width = match mark { b"ST" => 21, b"SG" | b"BG" | b"SU" => 5, b"BR" => 16, _ => return Err((12, at)) };
         let r = &b[at + 2..];
         if r.len() < width { return Err((13, at)); }
-        let full = match &b[at..at + 2] { b"ST" => c.strokes.len() >= 512, b"SG" => c.segments.len() >= 256, b"BG" => c.bigs.len() >= 256, b"SU" => c.superiors.len() >= 256, _ => c.highs.len() >= places };
-        if full { return Err((3, at)); }
-        if &b[at..at + 2] == b"BR" {
-            let (h, l) = (f64_at(r, 0), f64_at(r, 8));
-            if !is_price(h) || !is_price(l) { return Err((1, at)); }
-            c.highs.push(h);
-            c.lows.push(l);
-        } else {
-            if r[0] > 1 { return Err((2, at)); }
-            let (up, a, e) = (r[0] == 1, u16_at(r, 1), u16_at(r, 3));
-            match &b[at..at + 2] {
-                b"ST" => {
-                    let (p, q) = (f64_at(r, 5), f64_at(r, 13));
-                    if !is_price(p) || !is_price(q) { return Err((1, at)); }
-                    c.strokes.push(Stroke { is_up: up, start_bar: a, end_bar: e, start_price: p, end_price: q });
-                }
-                b"SG" => c.segments.push((a, e, up)),
-                b"BG" => c.bigs.push((a, e, up)),
-                _ => c.superiors.push((a, e, up)),
-            }
-        }
+        if mark == b"BR" { passed += 1; } else { read_record(&mut c, mark, r).map_err(|n| (n, at))?; }
         at += 2 + width;
     }
-    Ok(c)
+    Ok((c, passed))
+}
+
+// one more record of a level; or its number
+fn read_record(c: &mut Chart, mark: &[u8], r: &[u8]) -> Result<(), usize> {
+    let full = match mark { b"ST" => c.strokes.len() >= 512, b"SG" => c.segments.len() >= 256, b"BG" => c.bigs.len() >= 256, _ => c.superiors.len() >= 256 };
+    if full { return Err(3); }
+    if r[0] > 1 { return Err(2); }
+    let (up, a, e) = (r[0] == 1, u16_at(r, 1), u16_at(r, 3));
+    match mark {
+        b"ST" => {
+            let (p, q) = (f64_at(r, 5), f64_at(r, 13));
+            if !is_price(p) || !is_price(q) { return Err(1); }
+            c.strokes.push(Stroke { is_up: up, start_bar: a, end_bar: e, start_price: p, end_price: q });
+        }
+        b"SG" => c.segments.push((a, e, up)),
+        b"BG" => c.bigs.push((a, e, up)),
+        _ => c.superiors.push((a, e, up)),
+    }
+    Ok(())
+}
+
+// The highs and lows of a bars file. 13 cut short; 12 another mark; 20 the first number is not 0, or another not the one before and one; 3 no place left; 1
+fn read_bars(b: &[u8]) -> Result<(Vec<f64>, Vec<f64>), Refusal> {
+    let (mut highs, mut lows) = (vec![], vec![]);
+    let mut before = None;
+    for (i, r) in b.chunks(20).enumerate() {
+        let at = 20 * i;
+        if r.len() == 1 { return Err((13, at)); }
+        if &r[..2] != b"HL" { return Err((12, at)); }
+        if r.len() < 20 { return Err((13, at)); }
+        let (number, high, low) = (u16_at(r, 2), f64_at(r, 4), f64_at(r, 12));
+        if number != before.map_or(0, |n: usize| n + 1) { return Err((20, at)); }
+        if number >= BARS { return Err((3, at)); }
+        if !is_price(high) || !is_price(low) { return Err((1, at)); }
+        highs.push(high);
+        lows.push(low);
+        before = Some(number);
+    }
+    Ok((highs, lows))
+}
+
+// A chart with its bars, and how many BR were passed over. A refusal's place is in the file that is refused
+fn read(chart: &[u8], bars: &[u8]) -> Result<(Chart, usize), Refusal> {
+    if chart.len() > BYTES { return Err((3, BYTES)); }
+    let (levels, passed) = read_chart(chart)?;
+    let (highs, lows) = read_bars(bars)?;
+    Ok((Chart { highs, lows, ..levels }, passed))
 }
 
 // The range of a big, where it is not missing. The reference's own function is private, so this is the zone, of low dd and high gg, that the overlap
@@ -199,11 +234,12 @@ fn firsts(c: &Chart, out: &mut String) {
     }
 }
 
-fn report(bytes: &[u8], sections: &[String], out: &mut String) {
-    let c = match read(bytes, 2048) { Ok(c) => c, Err((n, p)) => { *out += &format!("refused {n} at {p}\n"); return; } };
+fn report(chart: &[u8], bars: &[u8], sections: &[String], out: &mut String) {
+    let (c, passed) = match read(chart, bars) { Ok(read) => read, Err((n, p)) => { *out += &format!("refused {n} at {p}\n"); return; } };
     let zones = z::detect_bigseg_zhongshus_by_overlap(&c.superiors, &c.bigs, &c.segments, &c.strokes);
     for s in sections {
         match s.as_str() {
+            "passed" => *out += &format!("PASSED {passed}\n"),
             "ranges" => ranges(&c, out),
             "zones" if zones.len() > 256 => *out += "ZONES refused 11\n",
             "zones" => {
@@ -243,20 +279,27 @@ fn report(bytes: &[u8], sections: &[String], out: &mut String) {
     }
 }
 
+// the file behind its length at a place, and the place behind it
+fn file_at(input: &[u8], at: usize) -> (&[u8], usize) {
+    let end = at + 4 + u32::from_le_bytes(input[at..at + 4].try_into().unwrap()) as usize;
+    (&input[at + 4..end], end)
+}
+
 fn main() {
     let args: Vec<String> = std::env::args().skip(1).collect();
-    let mut input = vec![];
-    std::io::stdin().read_to_end(&mut input).unwrap();
     let mut out = String::new();
-    if args[0] == "one" { report(&input, &args[1..], &mut out); }
-    else {
+    if args[0] == "one" {
+        report(&std::fs::read(&args[1]).unwrap(), &std::fs::read(&args[2]).unwrap(), &args[3..], &mut out);
+    } else {
+        let mut input = vec![];
+        std::io::stdin().read_to_end(&mut input).unwrap();
         let (mut at, mut i) = (0, 0);
         while at < input.len() {
-            let n = u32::from_le_bytes(input[at..at + 4].try_into().unwrap()) as usize;
+            let (chart, middle) = file_at(&input, at);
+            let (bars, end) = file_at(&input, middle);
             out += &format!("CHART {i}\n");
-            report(&input[at + 4..at + 4 + n], &args[1..], &mut out);
-            at += 4 + n;
-            i += 1;
+            report(chart, bars, &args[1..], &mut out);
+            (at, i) = (end, i + 1);
         }
     }
     std::io::stdout().write_all(out.as_bytes()).unwrap();

@@ -3,6 +3,8 @@ switch changes an answer, the chart tells the two readings apart. The facts of c
 A chart: strokes (d, start bar, end bar, start price, end price), segs, bigs, sups (d, first, last), highs, lows."""
 import inspect, re, struct
 from collections import namedtuple
+import bars_file
+from bars_file import Refused
 Chart = namedtuple('Chart', 'strokes segs bigs sups highs lows')
 Zone = namedtuple('Zone', 'sup start end zd zg dd gg first members')
 SW = set()
@@ -489,10 +491,10 @@ def nine(c):
     """some stroke's end bar is outside the slices"""
     return any(s[2] >= len(c.highs) for s in c.strokes)
 def range_row(r, e): return ('missing ' if r is None else f'{r[2]} {r[3]} {hx(r[0])} {hx(r[1])} ') + ('none' if e is None else f'{e[2]} {hx(e[4])}')
-def report(c):
+def report(c, passed=0):
     zs = zones(c)
     many = len(zs) > 256
-    o = section('RANGES', [range_row(r, e) for r, e in ranges(c)])
+    o = [f'PASSED {passed}'] + section('RANGES', [range_row(r, e) for r, e in ranges(c)])
     o += ['ZONES refused 11'] if many else section('ZONES', [f'{z.sup} {z.start} {z.end} {hx(z.zd)} {hx(z.zg)} {hx(z.dd)} {hx(z.gg)} {z.first} {z.members}' for z in zs])
     o += ['THIRD refused 11'] if many else section('THIRD', [f'{side(m[0])} {m[1]} {hx(m[2])} {m[3]} {hx(m[4])}' for m in third(c)])
     if nine(c): o += ['THREEN refused 9']
@@ -505,36 +507,38 @@ def report(c):
         for b in (0, 1): o += tried(f'{head} case3={b}', lambda: [f'{m[0]} {hx(m[1])}' for m in first_marks(c, b, buy)])
     return o
 
-# ---- the program marks: what it prints for a file
-SIZES = {b'ST': (21, 512), b'SG': (5, 256), b'BG': (5, 256), b'SU': (5, 256), b'BR': (16, 2048)}
-def price(b):
-    """a price, or None: not finite, or -0"""
-    bits = int.from_bytes(b, 'little')
-    if bits == 1 << 63 or bits >> 52 & 2047 == 2047: return None
-    return struct.unpack('<d', b)[0]
+# ---- the program marks: what it prints for a chart file and a bars file (02, request 14)
+SIZES = {b'ST': (21, 512), b'SG': (5, 256), b'BG': (5, 256), b'SU': (5, 256), b'BR': (16, None)}
 def read(data):
-    """the chart in a file, or (number, place) where it is refused"""
+    """the chart in a file, without bars, and how many BR were passed over"""
     rows = {kind: [] for kind in SIZES}
-    at = 0
+    passed = at = 0
     while at < len(data):
         kind = data[at:at + 2]
-        if len(kind) < 2: return 13, at
-        if kind not in SIZES: return 12, at
+        if len(kind) < 2: raise Refused(13, at)
+        if kind not in SIZES: raise Refused(12, at)
         width, places = SIZES[kind]
         r = data[at + 2:at + 2 + width]
-        if len(r) < width: return 13, at
-        if len(rows[kind]) == places: return 3, at
-        if kind != b'BR' and r[0] > 1: return 2, at
-        head = () if kind == b'BR' else (r[0], r[1] + 256 * r[2], r[3] + 256 * r[4])
-        tail = tuple(price(r[i:i + 8]) for i in range(0 if kind == b'BR' else 5, width, 8))
-        if None in tail: return 1, at
-        rows[kind].append(head + tail)
+        if len(r) < width: raise Refused(13, at)
+        if kind == b'BR': passed += 1
+        else:
+            if len(rows[kind]) == places: raise Refused(3, at)
+            if r[0] > 1: raise Refused(2, at)
+            prices = [int.from_bytes(r[i:i + 8], 'little') for i in range(5, width, 8)]
+            if not all(map(bars_file.is_price, prices)): raise Refused(1, at)
+            rows[kind].append((r[0], r[1] + 256 * r[2], r[3] + 256 * r[4], *map(bars_file.value, prices)))
         at += 2 + width
-    return Chart(rows[b'ST'], rows[b'SG'], rows[b'BG'], rows[b'SU'], [b[0] for b in rows[b'BR']], [b[1] for b in rows[b'BR']])
-def marks(data):
-    """what the program marks must print for a file, as bytes"""
-    c = read(data)
-    if not isinstance(c, Chart): return b'refused %d at %d\n' % c
+    return Chart(rows[b'ST'], rows[b'SG'], rows[b'BG'], rows[b'SU'], [], []), passed
+def files(chart, bars):
+    """the chart of two files, with the bars of the second, and how many BR were passed over in the first"""
+    if len(chart) > 65536: raise Refused(3, 65536)
+    c, passed = read(chart)
+    rows = bars_file.read(bars, 2048)
+    return c._replace(highs=[bars_file.value(h) for h, _ in rows], lows=[bars_file.value(l) for _, l in rows]), passed
+def marks(chart, bars):
+    """what the program marks must print for two files, as bytes"""
+    try: c, _ = files(chart, bars)
+    except Refused as refusal: return b'refused %d at %d\n' % refusal.args
     if nine(c): return b'refused 9 at 0\n'
     if len(zones(c)) > 256: return b'refused 11 at 0\n'
     rows = [f'{side(m[0])} {m[1]} {m[2]} {hx(m[3])}' for m in n3(c)]

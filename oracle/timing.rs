@@ -1,5 +1,5 @@
-// Makes a call of the reference many times, as the program `timing` makes ours, and prints the same sum: timing CALL NUMBER < FILE
-// Calls: zones third threen
+// Makes a call of the reference many times, as the program `timing` makes ours, on the files chart.dat and bars.dat where it is run, and prints the same
+// sum: timing CALL NUMBER. Calls: zones third threen
 #[allow(dead_code)]
 mod oracle {
     include!("main.rs");
@@ -16,13 +16,15 @@ mod oracle {
     }
 
     pub fn timed(call: &str, turns: usize) -> usize {
-        let mut input = vec![];
-        std::io::stdin().read_to_end(&mut input).unwrap();
-        let mut c = read(&input, 2048).unwrap_or_else(|(n, p)| panic!("refused {n} at {p}"));
+        let [chart, bars] = ["chart.dat", "bars.dat"].map(|name| std::fs::read(name).unwrap());
+        let (mut c, _) = read(&chart, &bars).unwrap_or_else(|(n, p)| panic!("refused {n} at {p}"));
+        let zones = |c: &Chart| z::detect_bigseg_zhongshus_by_overlap(&c.superiors, &c.bigs, &c.segments, &c.strokes);
+        let third = |c: &Chart| z::bigseg_third_marks_all_zhongshu(&c.superiors, &c.bigs, &c.segments, &c.strokes, &c.highs, &c.lows);
+        let threen = |c: &Chart| z::bigseg_3n_marks_all_zhongshu(&c.superiors, &c.bigs, &c.segments, &c.strokes, &c.highs, &c.lows);
         match call {
-            "zones" => sum_of(&mut c, turns, |c| z::detect_bigseg_zhongshus_by_overlap(&c.superiors, &c.bigs, &c.segments, &c.strokes), |z| z.start_bar),
-            "third" => sum_of(&mut c, turns, |c| z::bigseg_third_marks_all_zhongshu(&c.superiors, &c.bigs, &c.segments, &c.strokes, &c.highs, &c.lows), |m| m.bar_index),
-            "threen" => sum_of(&mut c, turns, |c| z::bigseg_3n_marks_all_zhongshu(&c.superiors, &c.bigs, &c.segments, &c.strokes, &c.highs, &c.lows), |m| m.bar_index),
+            "zones" => sum_of(&mut c, turns, zones, |z| z.start_bar),
+            "third" => sum_of(&mut c, turns, third, |m| m.bar_index),
+            "threen" => sum_of(&mut c, turns, threen, |m| m.bar_index),
             _ => panic!("unknown call {call}"),
         }
     }

@@ -9,13 +9,14 @@ use lib.ListN.{length, getD, take, drop, length-drop}
 use lib.Dec.{ltb}
 use borrow.Author.Tests.{le-ltb, ltb-true, ltb-false}
 use Rattle.rules.specs.Refusals.{refuse}
-use Rattle.rules.specs.Answer.{Answer, refused}
-use Rattle.rules.specs.File.{Kind, width, kindOf, Record, readRecord}
+use Rattle.rules.specs.Answer.{refused}
+use Rattle.rules.specs.File.{Kind, width, kindOf, readRecord}
 use Rattle.laws.proofs.FileSteps.{readBehind, record-at, behind-cut, behind-full}
 use Rattle.laws.proofs.FileCode.{part}
 use Rattle.chart_read.specs.declared.Mark.{Mark}
 use Rattle.chart_read.specs.declared.MarkRead.{MarkRead}
-use Rattle.chart_read.specs.Heads.{kindBy, markedBy, checked}
+use Rattle.chart_read.specs.declared.Head.{Head}
+use Rattle.chart_read.specs.Heads.{kindBy, markedBy, answerOf, checked}
 use Rattle.chart_read.specs.declared.MarkRead.the-variants as read
 
 -- enough bytes behind the mark
@@ -56,6 +57,9 @@ module _ (f : Kind → Bool) where
         head-full l t = sym (known ∙ behind-full f (drop 2 s) (kindBy m) (long l) t)
 
         pub head-fields :
-            (a : Answer Record) → ltb (length s - 2) w ≡ false → f (kindBy m) ≡ false
-            → a ≡ checked (kindBy m) (take (length s - 2) (drop 2 s)) → a ≡ readRecord f s
-        head-fields a l t c = c ∙ ap (checked (kindBy m)) (part s 2) ∙ sym (known ∙ right (drop 2 s) (kindBy m) (long l) t)
+            (h : Head) → ltb (length s - 2) w ≡ false → f (kindBy m) ≡ false
+            → answerOf h (take (length s - 2) (drop 2 s)) ≡ checked (kindBy m) (take (length s - 2) (drop 2 s))
+            → answerOf h (drop 2 s) ≡ readRecord f s
+        head-fields h l t c =
+            let same : answerOf h (drop 2 s) ≡ checked (kindBy m) (drop 2 s) = rw (part s 2) at c in
+            same ∙ sym (known ∙ right (drop 2 s) (kindBy m) (long l) t)

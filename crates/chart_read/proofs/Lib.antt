@@ -1,5 +1,4 @@
 pub mod RecordKinds
 pub mod Heads
 pub mod Scans
-pub mod Fills
 pub mod ReadCall

@@ -2,25 +2,24 @@
 use Prim.Native.Nat.{ℕ, suc}
 use native.Mathlib.Omega.{arith}
 use mathlib.Core.Path.{_≡_, refl, sym, ap, _∙_}
-use mathlib.Core.Bool.{true, false, not, _||_, and-false}
+use mathlib.Core.Bool.{true, false, and-false}
 use mathlib.Core.List.{List}
 use mathlib.Core.Option.{none, some}
 use lib.ListN.{getD}
 use lib.Dec.{eqb}
-use lib.Ieee.{Float}
 use borrow.Author.Tests.{ne-eqb}
-use Rattle.price.specs.Price.{isPrice}
 use Rattle.chart.specs.declared.Stroke.{Stroke}
 use Rattle.chart.specs.declared.Triple.{Triple}
 use Rattle.rules.specs.Text.{ascii}
 use Rattle.rules.specs.Refusals.{refuse, aboveOne, badPrices}
 use Rattle.rules.specs.Answer.{refused, given, answered}
-use Rattle.rules.specs.File.{Kind, ST, SG, BG, SU, BR, markOf, width, isMark, kindOf, Record, stroke, segment, big, superior, bar}
-use Rattle.rules.specs.File.{price, strokeIn, tripleIn, recordIn, fieldRefusal}
+use Rattle.rules.specs.File.{Kind, ST, SG, BG, SU, BR, markOf, width, isMark, kindOf, Record, stroke, segment, big, superior}
+use Rattle.rules.specs.File.{strokeIn, tripleIn, recordIn, fieldRefusal}
 use Rattle.laws.proofs.Lists.{nil, cons, find-none}
 use Rattle.chart_read.specs.declared.Level.{Level}
 use Rattle.chart_read.specs.declared.Mark.{Mark}
-use Rattle.chart_read.specs.Heads.{levelKind, kindBy, tripleBy, checked}
+use Rattle.chart_read.specs.declared.Counts.{Counts}
+use Rattle.chart_read.specs.Heads.{levelKind, kindBy, tripleBy, checked, fullBy}
 use Rattle.chart_read.specs.declared.Level.the-variants as level
 use Rattle.chart_read.specs.declared.Mark.the-variants as mark
 
@@ -135,15 +134,11 @@ module _ (s : List ℕ) (t : Triple) (e : t ≡ tripleIn s) where
   unfolding refuse
   triple-given l h = with-none s (levelKind l) (tripleBy l t) (is-triple l) (by-direction l ∙ rw h)
 
-module _ (s : List ℕ) (h l : Float) (e : h ≡ price 0 s) (f : l ≡ price 8 s) where
-  is-bar : bar h l ≡ recordIn BR s
-  unfolding recordIn
-  is-bar = rw (e, f)
+-- a bar has no field that is tested, and takes no place
+pub bar-given : (s : List ℕ) (m : Mark) → m ≡ mark.Bar → given (recordIn BR s) ≡ checked (kindBy m) s
+unfolding recordIn fieldRefusal
+bar-given s m e = with-none s BR (recordIn BR s) refl refl ∙ rw e
 
-  pub bar-prices : (not (isPrice h) || not (isPrice l)) ≡ true → refused 1 ≡ checked BR s
-  unfolding fieldRefusal refuse
-  bar-prices w = with-number s BR (bar h l) is-bar 0 (rw w)
-
-  pub bar-given : (not (isPrice h) || not (isPrice l)) ≡ false → given (bar h l) ≡ checked BR s
-  unfolding fieldRefusal refuse
-  bar-given w = with-none s BR (bar h l) is-bar (rw w)
+pub bar-free : (c : Counts) (m : Mark) → m ≡ mark.Bar → false ≡ fullBy c (kindBy m)
+unfolding fullBy
+bar-free c m e = rw e

@@ -1,16 +1,12 @@
--- The record at the head of some bytes as the code's enums have it, and a reading whose bars are only counted. Assumes nothing.
-use Prim.Native.Nat.{ℕ, zero, suc}
-use mathlib.Core.Bool.{Bool, true, false, cond, not, _||_}
+-- The record at the head of some bytes as the code's enums have it. Assumes nothing.
+use Prim.Native.Nat.{ℕ}
+use mathlib.Core.Bool.{Bool, false}
 use mathlib.Core.List.{List}
 use mathlib.Core.Option.{Option, none, some}
-use lib.ListN.{length}
-use lib.Dec.{eqb, leb}
+use lib.Dec.{leb}
 use Rattle.chart.specs.declared.Triple.{Triple}
-use Rattle.chart.specs.declared.Chart.{Chart}
-use Rattle.rules.specs.Answer.{AnswerBy, Answer, NumberAt, refused, given, answered}
-use Rattle.rules.specs.Records.{Levels, levelsOf}
-use Rattle.rules.specs.Refusals.{overfull}
-use Rattle.rules.specs.File.{Kind, ST, SG, BG, SU, BR, Record, stroke, segment, big, superior, bar, recordIn, fieldRefusal, Content}
+use Rattle.rules.specs.Answer.{Answer, refused, given, answered}
+use Rattle.rules.specs.File.{Kind, ST, SG, BG, SU, BR, Record, stroke, segment, big, superior, recordIn, fieldRefusal}
 use Rattle.chart_read.specs.declared.Level.{Level}
 use Rattle.chart_read.specs.declared.Mark.{Mark}
 use Rattle.chart_read.specs.declared.MarkRead.{MarkRead}
@@ -36,48 +32,26 @@ abbrev pub markedBy : MarkRead → Option Kind
 markedBy (read.Mark m) = some (kindBy m)
 markedBy read.NoMark = none
 
--- the record that is read, or its refusal
+-- the record that is read, or its refusal, with the bytes behind the mark: a bar is what stands there
 abbrev pub tripleBy : Level → Triple → Record
 tripleBy level.Segment t = segment t
 tripleBy level.Big t = big t
 tripleBy level.Superior t = superior t
 
-abbrev pub answerOf : Head → Answer Record
-answerOf (head.Refused k) = refused k
-answerOf (head.Stroke s) = given (stroke s)
-answerOf (head.Triple l t) = given (tripleBy l t)
-answerOf (head.Bar h l) = given (bar h l)
+abbrev pub answerOf : Head → List ℕ → Answer Record
+answerOf (head.Refused k) behind = refused k
+answerOf (head.Stroke s) behind = given (stroke s)
+answerOf (head.Triple l t) behind = given (tripleBy l t)
+answerOf head.Bar behind = given (recordIn BR behind)
 
 -- the record of a kind in some bytes, by its fields' refusal
 unfoldable pub checked : Kind → List ℕ → Answer Record
 checked k bytes = answered (fieldRefusal (recordIn k bytes)) (recordIn k bytes)
 
--- no place is left for one more of a kind
+-- no place is left for one more of a kind; a bar takes none
 unfoldable pub fullBy : Counts → Kind → Bool
 fullBy c ST = leb 512 (c .strokes)
 fullBy c SG = leb 256 (c .segments)
 fullBy c BG = leb 256 (c .bigs)
 fullBy c SU = leb 256 (c .superiors)
-fullBy c BR = leb (c .places) (c .bars)
-
--- ---- the levels, and how many bars there are
-
-pub record Counted : Type 0 where
-  pub levels : Levels
-  pub bars : ℕ
-
--- of a reading
-unfoldable pub countBars : AnswerBy NumberAt Content → AnswerBy NumberAt Counted
-countBars (refused k) = refused k
-countBars (given c) = given (record { levels = c .levels; bars = length (c .bars .highs) })
-
--- of the reader's struct, as `loaded` has it
-unfoldable pub counted : ℕ → ℕ → Chart → ℕ → AnswerBy NumberAt Counted
-counted zero place c n =
-    cond (not (eqb place 0) || overfull c) (refused (record { number = 0; place = 0 })) (given (record { levels = levelsOf c; bars = n }))
-counted (suc k) place c n = refused (record { number = suc k; place = place })
-
--- a reading that is not refused
-unfoldable pub isGiven : {R A : Type 0} → AnswerBy R A → Bool
-isGiven (refused k) = false
-isGiven (given a) = true
+fullBy c BR = false

@@ -3,20 +3,19 @@ use chart::Chart;
 use chart::Stroke;
 use chart::Triple;
 ghost use mathlib.Core.Path.{_≡_};
-ghost use mathlib.Core.Bool.{true};
 ghost use Prim.Native.Nat.{_≤_};
-ghost use lib.ListN.{length};
-ghost use Rattle.rules.specs.File.{ST, BR, kindOf, width, readRecord, readFile, readCall, slicesAfter};
+ghost use lib.ListN.{length, drop};
+ghost use Rattle.rules.specs.File.{ST, kindOf, width, readRecord, readFile};
 ghost use Rattle.chart_read.specs.Loaded.{loaded};
-ghost use Rattle.chart_read.specs.Heads.{levelKind, kindBy, markedBy, answerOf, checked, fullBy, countBars, counted, isGiven};
+ghost use Rattle.chart_read.specs.Heads.{levelKind, kindBy, markedBy, answerOf, checked, fullBy};
 
-// A number, 0 where the file is accepted; the place of the refused record's mark, 0 where none is refused. The chart and the
-// number of bars; beside a refusal they are free.
+// A number, 0 where the file is accepted; the place of the refused record's mark, 0 where none is refused. The chart, which beside a
+// refusal is free, and how many BR records were passed over, 0 beside a refusal.
 pub struct Loaded {
     pub number: u8,
     pub place: usize,
     pub chart: Chart,
-    pub bars: usize,
+    pub passed: usize,
 }
 
 // The levels above the strokes, whose records are triples.
@@ -39,22 +38,20 @@ enum MarkRead {
     NoMark,
 }
 
-// The record at the head of some bytes, or the number of its refusal.
+// The record at the head of some bytes, or the number of its refusal. A bar's bytes are not looked at.
 enum Head {
     Refused(u8),
     Stroke(Stroke),
     Triple(Level, Triple),
-    Bar(f64, f64),
+    Bar,
 }
 
-// How many records of each kind there are, and how many places for bars.
+// How many records of each level there are.
 struct Counts {
     strokes: u16,
     segments: u16,
     bigs: u16,
     superiors: u16,
-    bars: usize,
-    places: usize,
 }
 
 // A chart with no record.
@@ -124,21 +121,21 @@ fn level_full(counts: Counts, l: Level) -> bool
     }
 }
 
-// Whether there is no place for one more of a kind.
+// Whether there is no place for one more of a kind. A bar takes none.
 fn is_full(counts: Counts, m: Mark) -> bool
     ensures { λ r. ⌜ r ≡ fullBy counts (kindBy m) ⌝ }
 {
     match m {
         Mark::Stroke => 512 <= counts.strokes,
         Mark::Triple(l) => level_full(counts, l),
-        Mark::Bar => counts.places <= counts.bars,
+        Mark::Bar => false,
     }
 }
 
 // The triple of a level in the bytes behind a mark, where its direction is one.
 fn checked_triple(s: &[u8], l: Level) -> Head
     requires { ⌜ 5 ≤ length (now s) ⌝ }
-    ensures { λ r. ⌜ answerOf r ≡ checked (levelKind l) (now (s .entry)) ⌝ }
+    ensures { λ r. ⌜ answerOf r (now (s .entry)) ≡ checked (levelKind l) (now (s .entry)) ⌝ }
 {
     let triple = fields::triple_in(s);
     if 1 < triple.direction {
@@ -150,7 +147,7 @@ fn checked_triple(s: &[u8], l: Level) -> Head
 // The stroke, where its direction and its prices are.
 fn checked_stroke(s: &[u8]) -> Head
     requires { ⌜ 21 ≤ length (now s) ⌝ }
-    ensures { λ r. ⌜ answerOf r ≡ checked ST (now (s .entry)) ⌝ }
+    ensures { λ r. ⌜ answerOf r (now (s .entry)) ≡ checked ST (now (s .entry)) ⌝ }
 {
     let stroke = fields::stroke_in(s);
     if 1 < stroke.direction {
@@ -162,34 +159,21 @@ fn checked_stroke(s: &[u8]) -> Head
     Head::Stroke(stroke)
 }
 
-// The bar: its high, then its low.
-fn checked_bar(s: &[u8]) -> Head
-    requires { ⌜ 16 ≤ length (now s) ⌝ }
-    ensures { λ r. ⌜ answerOf r ≡ checked BR (now (s .entry)) ⌝ }
-{
-    let high = fields::price_at(s, 0);
-    let low = fields::price_at(s, 8);
-    if price::wrong_prices(high, low) {
-        return Head::Refused(1);
-    }
-    Head::Bar(high, low)
-}
-
 // The record of a kind.
 fn checked_record(s: &[u8], m: Mark) -> Head
     requires { ⌜ width (kindBy m) ≤ length (now s) ⌝ }
-    ensures { λ r. ⌜ answerOf r ≡ checked (kindBy m) (now (s .entry)) ⌝ }
+    ensures { λ r. ⌜ answerOf r (now (s .entry)) ≡ checked (kindBy m) (now (s .entry)) ⌝ }
 {
     match m {
         Mark::Stroke => checked_stroke(s),
         Mark::Triple(l) => checked_triple(s, l),
-        Mark::Bar => checked_bar(s),
+        Mark::Bar => Head::Bar,
     }
 }
 
 // The record at the head of some bytes.
 fn head_of(s: &[u8], counts: Counts) -> Head
-    ensures { λ r. ⌜ answerOf r ≡ readRecord (fullBy counts) (now (s .entry)) ⌝ }
+    ensures { λ r. ⌜ answerOf r (drop 2 (now (s .entry))) ≡ readRecord (fullBy counts) (now (s .entry)) ⌝ }
 {
     if s.len() < 2 {
         return Head::Refused(13);
@@ -208,24 +192,24 @@ fn head_of(s: &[u8], counts: Counts) -> Head
     checked_record(&s[2..], m)
 }
 
-// A refusal holds no chart.
-fn refusal(number: u8, place: usize) -> Loaded
-    ensures { λ r. ⌜ (r .number ≡ number) × (r .place ≡ place) ⌝ }
+// A refusal holds no chart, and nothing passed over.
+pub fn refusal(number: u8, place: usize) -> Loaded
+    ensures { λ r. ⌜ (r .number ≡ number) × (r .place ≡ place) × (r .passed ≡ 0) ⌝ }
 {
     Loaded {
         number: number,
         place: place,
         chart: no_chart(),
-        bars: 0,
+        passed: 0,
     }
 }
 
-// The chart of a file with so many places for bars. Its bars are tested and counted.
-fn scan(bytes: &[u8], places: usize) -> Loaded
-    ensures { λ r. ⌜ counted (r .number) (r .place) (r .chart) (r .bars) ≡ countBars (readFile places (now (bytes .entry))) ⌝ }
+// The chart of a file. Its BR records are passed over, their bytes unexamined, and counted.
+pub fn read_chart(bytes: &[u8]) -> Loaded
+    ensures { λ r. ⌜ loaded (r .number) (r .place) (r .chart) (r .passed) ≡ readFile (now (bytes .entry)) ⌝ }
 {
     let mut chart = no_chart();
-    let mut bars = 0usize;
+    let mut passed = 0usize;
     let mut at = 0usize;
     while at < bytes.len() {
         let counts = Counts {
@@ -233,8 +217,6 @@ fn scan(bytes: &[u8], places: usize) -> Loaded
             segments: chart.segment_count,
             bigs: chart.big_count,
             superiors: chart.superior_count,
-            bars: bars,
-            places: places,
         };
         let head = head_of(&bytes[at..], counts);
         match head {
@@ -267,8 +249,8 @@ fn scan(bytes: &[u8], places: usize) -> Loaded
                     }
                 }
             }
-            Head::Bar(_, _) => {
-                bars += 1;
+            Head::Bar => {
+                passed += 1;
                 at += 18;
             }
         }
@@ -277,65 +259,6 @@ fn scan(bytes: &[u8], places: usize) -> Loaded
         number: 0,
         place: 0,
         chart: chart,
-        bars: bars,
+        passed: passed,
     }
-}
-
-// Puts the bars of an accepted file into the first places of the slices.
-fn fill_bars(bytes: &[u8], highs: &mut [f64], lows: &mut [f64])
-    requires { ⌜ length (now highs) ≡ length (now lows) ⌝ }
-    requires { ⌜ isGiven (readFile (length (now highs)) (now bytes)) ≡ true ⌝ }
-    ensures { λ _. ⌜ record { highs = now (highs .exit); lows = now (lows .exit) }
-        ≡ slicesAfter (readFile (length (now (highs .entry))) (now (bytes .entry))) (record { highs = now (highs .entry); lows = now (lows .entry) }) ⌝ }
-{
-    let counts = Counts {
-        strokes: 0,
-        segments: 0,
-        bigs: 0,
-        superiors: 0,
-        bars: 0,
-        places: 1,
-    };
-    let mut bars = 0usize;
-    let mut at = 0usize;
-    while at < bytes.len() {
-        let head = head_of(&bytes[at..], counts);
-        match head {
-            Head::Refused(_) => {
-                return;
-            }
-            Head::Stroke(_) => {
-                at += 23;
-            }
-            Head::Triple(_, _) => {
-                at += 7;
-            }
-            Head::Bar(h, l) => {
-                highs[bars] = h;
-                lows[bars] = l;
-                bars += 1;
-                at += 18;
-            }
-        }
-    }
-}
-
-// The chart of a file, and its bars in the first places of the lent slices. The whole file is tested first, so that a refused one
-// leaves the slices as they were.
-pub fn read_chart(bytes: &[u8], highs: &mut [f64], lows: &mut [f64]) -> Loaded
-    ensures { λ r. ⌜ loaded (r .number) (r .place) (r .chart) (r .bars) (record { highs = now (highs .exit); lows = now (lows .exit) })
-        ≡ readCall (record { highs = now (highs .entry); lows = now (lows .entry) }) (now (bytes .entry)) ⌝ }
-    ensures { λ r. ⌜ record { highs = now (highs .exit); lows = now (lows .exit) }
-        ≡ slicesAfter (readCall (record { highs = now (highs .entry); lows = now (lows .entry) }) (now (bytes .entry)))
-        (record { highs = now (highs .entry); lows = now (lows .entry) }) ⌝ }
-{
-    if highs.len() != lows.len() {
-        return refusal(8, 0);
-    }
-    let r = scan(bytes, highs.len());
-    if r.number != 0 {
-        return r;
-    }
-    fill_bars(bytes, highs, lows);
-    r
 }

@@ -15,18 +15,18 @@ use Rattle.chart_trip.specs.Same.{Writing, refusalOf, sameRefusal, fileA
 module _ (v w : Writing) where
   -- ---- the number
 
-  pub first-refused : (n : ℕ) → (n ≡ 0 → ⊥) → n ≡ writeRefusal (v .chart) (v .bars) (v .buffer) → n ≡ sameRefusal v w
+  pub first-refused : (n : ℕ) → (n ≡ 0 → ⊥) → n ≡ writeRefusal (v .chart) (v .buffer) → n ≡ sameRefusal v w
   unfolding sameRefusal refusalOf
   first-refused zero h e = absurd (h refl)
   first-refused (suc n) h e = rw (sameRefusal, refusalOf, sym e)
 
   pub second-decides :
-      (n m : ℕ) → n ≡ 0 → n ≡ writeRefusal (v .chart) (v .bars) (v .buffer) → m ≡ writeRefusal (w .chart) (w .bars) (w .buffer) → m ≡ sameRefusal v w
+      (n m : ℕ) → n ≡ 0 → n ≡ writeRefusal (v .chart) (v .buffer) → m ≡ writeRefusal (w .chart) (w .buffer) → m ≡ sameRefusal v w
   unfolding sameRefusal refusalOf
   second-decides n m z e f = rw (sameRefusal, refusalOf, sym e, z, f)
 
   pub both-accepted :
-      sameRefusal v w ≡ 0 → (writeRefusal (v .chart) (v .bars) (v .buffer) ≡ 0) × (writeRefusal (w .chart) (w .bars) (w .buffer) ≡ 0)
+      sameRefusal v w ≡ 0 → (writeRefusal (v .chart) (v .buffer) ≡ 0) × (writeRefusal (w .chart) (w .buffer) ≡ 0)
   unfolding sameRefusal refusalOf
   both-accepted e = go (refusalOf v) (refusalOf w) e
     where
@@ -53,16 +53,16 @@ module _ (v w : Writing) where
   -- x and y are the bytes written, and same tells whether they are equal
   pub written-files :
       sameRefusal v w ≡ 0 → anyLevel wide (levelsOf (v .chart)) ≡ false → anyLevel wide (levelsOf (w .chart)) ≡ false → (same : Bool)
-      (x y first second : List ℕ) → x ≡ written (levelsOf (v .chart)) (v .bars) → y ≡ written (levelsOf (w .chart)) (w .bars)
-      → (same ≡ true → x ≡ y) × (x ≡ y → same ≡ true) → first ≡ bufferAfter (v .chart) (v .bars) (v .buffer)
-      → second ≡ bufferAfter (w .chart) (w .bars) (w .buffer) → Compared v w 0 same first second
+      (x y first second : List ℕ) → x ≡ written (levelsOf (v .chart)) → y ≡ written (levelsOf (w .chart))
+      → (same ≡ true → x ≡ y) × (x ≡ y → same ≡ true) → first ≡ bufferAfter (v .chart) (v .buffer)
+      → second ≡ bufferAfter (w .chart) (w .buffer) → Compared v w 0 same first second
   unfolding fileAfter
   written-files e a b same x y first second f g t h k =
       let ok = both-accepted e in
-      let s = same-file _ _ _ _ (chart-writable (v .chart) (v .bars) (v .buffer) (ok .0) a) (chart-writable (w .chart) (w .bars) (w .buffer) (ok .1) b) in
+      let s = same-file _ _ (chart-writable (v .chart) (v .buffer) (ok .0) a) (chart-writable (w .chart) (w .buffer) (ok .1) b) in
       record {
         number-is = sym e;
-        if-equal = λ z q. t .1 (f ∙ s .forth (q .0) (q .1) ∙ sym g);
+        if-equal = λ z q. t .1 (f ∙ s .forth q ∙ sym g);
         only-if-equal = λ z r. s .back (sym f ∙ t .0 r ∙ g);
         files = λ z. s;
         beside-refusal = λ z. absurd (z refl);

@@ -1,30 +1,29 @@
 -- The four levels of a chart as bytes, the refusals of writing, and its answer. Assumes nothing.
-use Prim.Native.Nat.{ℕ, zero, suc, _+_, _-_, _*_, _/_, _≤_, _<_}
+use Prim.Native.Nat.{ℕ, zero, suc, _+_, _*_, _≤_}
 use native.Mathlib.Omega.{arith}
-use mathlib.Core.Path.{_≡_, refl, sym, ap, _∙_}
-use mathlib.Core.Bool.{Bool, true, false, not, _||_}
-use mathlib.Core.List.{List, [], _∷_, _++_, map, append-assoc}
+use mathlib.Core.Path.{_≡_, refl, sym, _∙_}
+use mathlib.Core.Bool.{Bool, true, false}
+use mathlib.Core.List.{List, [], _∷_, _++_, map}
 use lib.ListN.{length, take}
 use lib.Seq.{length-take-le}
-use lib.Dec.{eqb, ltb}
-use borrow.Author.Tests.{ltb-false, ltb-true, lt-ltb, le-ltb, eqb-true, not-false}
+use lib.Dec.{ltb}
+use borrow.Author.Tests.{ltb-false}
 use Rattle.chart.specs.declared.Triple.{Triple}
 use Rattle.chart.specs.declared.Chart.{Chart}
-use Rattle.price.specs.Price.{allPrices}
 use Rattle.rules.specs.Answer.{answered}
 use Rattle.rules.specs.Lists.{any, each}
-use Rattle.rules.specs.Records.{levelsOf, Quotes}
-use Rattle.rules.specs.Refusals.{refuse, wrongStroke, overfull, badLevels, badChart, unequal, badQuotes}
-use Rattle.rules.specs.File.{Record, stroke, segment, big, superior, recordBytes, barRecords, recordsOf, written, writeRefusal, writeCall, bufferAfter}
+use Rattle.rules.specs.Records.{levelsOf}
+use Rattle.rules.specs.Refusals.{refuse, wrongStroke, overfull, badLevels, badChart}
+use Rattle.rules.specs.File.{Record, stroke, segment, big, superior, recordBytes, recordsOf, written, fill, writeRefusal, writeCall, bufferAfter}
 use Rattle.laws.proofs.Lists.{each-append}
-use Rattle.laws.proofs.Tests.{or-l, or-r, refuse-no, refuse-on}
+use Rattle.laws.proofs.Tests.{or-r, refuse-no, refuse-on}
 use Rattle.laws.proofs.Ordered.{strokes-right}
 use Rattle.laws.proofs.Arrays.{Sized}
 use Rattle.laws.proofs.Answers.{counted}
 use Rattle.laws.proofs.FileLong.{used, length-written}
-use Rattle.chart_write.specs.Put.{putAt, marked, levelBytes}
+use Rattle.laws.proofs.FilePut.{put-fill, Stage, room-before}
+use Rattle.chart_write.specs.Marked.{marked}
 use Rattle.chart_write.proofs.Records.{segment-mark, big-mark, superior-mark}
-use Rattle.chart_write.proofs.Put.{put-fill, Stage, room-before}
 
 -- ---- the four levels
 
@@ -47,8 +46,8 @@ module _ (c : Chart) where
   abbrev pub superiorsIn : List ℕ
   superiorsIn = each (marked 83 85) (take (c .«superior_count») (c .superiors))
 
-  levels-split : levelBytes (levelsOf c) ≡ strokesIn ++ segmentsIn ++ bigsIn ++ superiorsIn
-  unfolding levelBytes levelsOf
+  levels-split : written (levelsOf c) ≡ strokesIn ++ segmentsIn ++ bigsIn ++ superiorsIn
+  unfolding written recordsOf levelsOf
   levels-split =
       let s = map stroke (take (c .«stroke_count») (c .strokes)) in
       let g = take (c .«segment_count») (c .segments) in
@@ -67,141 +66,99 @@ module _ (c : Chart) where
   unfolding badChart levelsOf
   good-strokes h = strokes-right (levelsOf c) (or-r (overfull c) (badLevels (levelsOf c)) h)
 
-  module _ (at n : ℕ) (room : at + length (levelBytes (levelsOf c)) ≤ n) where
-    pub room-4 : at + length (strokesIn ++ segmentsIn ++ bigsIn ++ superiorsIn) ≤ n
-    room-4 = rw levels-split at room
+  module _ (n : ℕ) (room : length (written (levelsOf c)) ≤ n) where
+    pub room-4 : 0 + length (strokesIn ++ segmentsIn ++ bigsIn ++ superiorsIn) ≤ n
+    room-4 = rw (← levels-split) (omega arith)
 
-    pub room-3 : at + length (strokesIn ++ segmentsIn ++ bigsIn) ≤ n
-    room-3 = room-before (strokesIn ++ segmentsIn ++ bigsIn) superiorsIn at n room-4
+    pub room-3 : 0 + length (strokesIn ++ segmentsIn ++ bigsIn) ≤ n
+    room-3 = room-before (strokesIn ++ segmentsIn ++ bigsIn) superiorsIn 0 n room-4
 
-    pub room-2 : at + length (strokesIn ++ segmentsIn) ≤ n
-    room-2 = room-before (strokesIn ++ segmentsIn) bigsIn at n room-3
+    pub room-2 : 0 + length (strokesIn ++ segmentsIn) ≤ n
+    room-2 = room-before (strokesIn ++ segmentsIn) bigsIn 0 n room-3
 
-    pub room-1 : at + length strokesIn ≤ n
-    room-1 = room-before strokesIn segmentsIn at n room-2
+    pub room-1 : 0 + length strokesIn ≤ n
+    room-1 = room-before strokesIn segmentsIn 0 n room-2
 
   -- all four are put
   pub levels-put :
-      {at end : ℕ} {old buffer : List ℕ} → Stage at (strokesIn ++ segmentsIn ++ bigsIn ++ superiorsIn) old end buffer
-      → (end ≡ at + length (levelBytes (levelsOf c))) × (buffer ≡ putAt (levelBytes (levelsOf c)) at old)
-  levels-put s = rw levels-split (s .place, s .same)
+      {end : ℕ} {old buffer : List ℕ} → Stage 0 (strokesIn ++ segmentsIn ++ bigsIn ++ superiorsIn) old end buffer
+      → (end ≡ length (written (levelsOf c))) × (buffer ≡ fill (written (levelsOf c)) old)
+  levels-put s = rw levels-split (omega (arith, s .place), s .same ∙ put-fill _ _)
 
 -- ---- refusals
-
-pub short-levels : (room size bars : ℕ) → room < size → true ≡ ltb room (size + 18 * bars)
-short-levels room size bars h = sym (lt-ltb room (size + 18 * bars) (omega arith))
-
-pub short-bars : (room size bars : ℕ) → size ≤ room → ltb ((room - size) / 18) bars ≡ ltb room (size + 18 * bars)
-short-bars room size bars h = go (ltb ((room - size) / 18) bars) refl
-  where
-    go : (b : Bool) → ltb ((room - size) / 18) bars ≡ b → b ≡ ltb room (size + 18 * bars)
-    go true e = let l = ltb-true ((room - size) / 18) bars e in sym (lt-ltb room (size + 18 * bars) (omega arith))
-    go false e = let l = ltb-false ((room - size) / 18) bars e in sym (le-ltb room (size + 18 * bars) (omega arith))
 
 -- how many bytes its levels take
 abbrev pub sizeOf : Chart → ℕ
 sizeOf c = 23 * c .«stroke_count» + 7 * c .«segment_count» + 7 * c .«big_count» + 7 * c .«superior_count»
 
-module _ (c : Chart) (q : Quotes) where
-  written-size :
-      Sized c → badChart c ≡ false → length (q .highs) ≡ length (q .lows) → length (written (levelsOf c) q) ≡ sizeOf c + 18 * length (q .highs)
+-- the first that applies
+module _ (bad short : Bool) where
+  pub first-bad : bad ≡ true → 21 ≡ refuse bad 21 (refuse short 3 0)
+  unfolding refuse
+  first-bad b = rw b
+
+  pub first-short : bad ≡ false → short ≡ true → 3 ≡ refuse bad 21 (refuse short 3 0)
+  unfolding refuse
+  first-short b s = rw (b, s)
+
+  pub first-none : bad ≡ false → short ≡ false → 0 ≡ refuse bad 21 (refuse short 3 0)
+  unfolding refuse
+  first-none b s = rw (b, s)
+
+module _ (c : Chart) (buffer : List ℕ) where
+  written-size : Sized c → badChart c ≡ false → length (written (levelsOf c)) ≡ sizeOf c
   unfolding used levelsOf
-  written-size l good e =
+  written-size l good =
       let n = counted c good in
       omega (
         arith,
-        length-written (levelsOf c) q e,
+        length-written (levelsOf c),
         length-take-le (c .«stroke_count») (c .strokes) (omega arith),
         length-take-le (c .«segment_count») (c .segments) (omega arith),
         length-take-le (c .«big_count») (c .bigs) (omega arith),
         length-take-le (c .«superior_count») (c .superiors) (omega arith),
       )
 
-  equal-slices : unequal q ≡ false → length (q .highs) ≡ length (q .lows)
-  unfolding unequal
-  equal-slices h = eqb-true (length (q .highs)) (length (q .lows)) (not-false _ h)
-
   -- the size by counts decides as the bytes do
-  refusal-is :
-      (buffer : List ℕ) → Sized c
-      → refuse (badChart c) 21 (refuse (unequal q) 8 (refuse (badQuotes q) 1 (refuse (ltb (length buffer) (sizeOf c + 18 * length (q .highs))) 3 0)))
-      ≡ writeRefusal c q buffer
+  refusal-is : Sized c → refuse (badChart c) 21 (refuse (ltb (length buffer) (sizeOf c)) 3 0) ≡ writeRefusal c buffer
   unfolding writeRefusal refuse
-  refusal-is buffer l = go (badChart c) refl (unequal q) refl
+  refusal-is l = go (badChart c) refl
     where
       go :
-          (b : Bool) → badChart c ≡ b → (u : Bool) → unequal q ≡ u
-          → refuse b 21 (refuse u 8 (refuse (badQuotes q) 1 (refuse (ltb (length buffer) (sizeOf c + 18 * length (q .highs))) 3 0)))
-          ≡ refuse b 21 (refuse u 8 (refuse (badQuotes q) 1 (refuse (ltb (length buffer) (length (written (levelsOf c) q))) 3 0)))
-      go true e u f = refl
-      go false e true f = refl
-      go false e false f = rw (written-size l e (equal-slices f))
+          (b : Bool) → badChart c ≡ b
+          → refuse b 21 (refuse (ltb (length buffer) (sizeOf c)) 3 0) ≡ refuse b 21 (refuse (ltb (length buffer) (length (written (levelsOf c)))) 3 0)
+      go true e = refl
+      go false e = rw (written-size l e)
 
   pub refusal-by :
-      (buffer : List ℕ) (r size : ℕ) (bad wrong short : Bool) → Sized c
-      → r ≡ refuse bad 21 (refuse (not (eqb (length (q .highs)) (length (q .lows)))) 8 (refuse wrong 1 (refuse short 3 0)))
-      → bad ≡ badChart c → wrong ≡ badQuotes q → size ≡ sizeOf c → short ≡ ltb (length buffer) (size + 18 * length (q .highs))
-      → r ≡ writeRefusal c q buffer
-  unfolding unequal
-  refusal-by buffer r size bad wrong short l e b w z s = e ∙ rw (b, w, s, z) (refusal-is buffer l)
+      (r size : ℕ) (bad : Bool) → Sized c → bad ≡ badChart c → size ≡ sizeOf c → r ≡ refuse bad 21 (refuse (ltb (length buffer) size) 3 0)
+      → r ≡ writeRefusal c buffer
+  refusal-by r size bad l b z e = e ∙ rw (b, z) (refusal-is l)
 
   -- ---- the answer
 
-  -- bars before levels
-  written-split : written (levelsOf c) q ≡ each recordBytes (barRecords (q .highs) (q .lows)) ++ levelBytes (levelsOf c)
-  unfolding written recordsOf levelBytes
-  written-split =
-      let b = barRecords (q .highs) (q .lows) in
-      let s = map stroke (levelsOf c .strokes) in
-      let g = map segment (levelsOf c .segments) in
-      let k = map big (levelsOf c .bigs) in
-      let u = map superior (levelsOf c .superiors) in
-      let e : b ++ s ++ g ++ k ++ u ≡ b ++ (s ++ g ++ k ++ u) = simp append-assoc in
-      ap (each recordBytes) e ∙ each-append recordBytes b (s ++ g ++ k ++ u)
-
-  pub record Accepted (buffer : List ℕ) : Type 0 where
+  pub record Accepted : Type 0 where
     pub good : badChart c ≡ false
-    pub equal : length (q .highs) ≡ length (q .lows)
-    pub prices : (allPrices (q .highs) ≡ true) × (allPrices (q .lows) ≡ true)
-    pub room : 0 + length (each recordBytes (barRecords (q .highs) (q .lows)) ++ levelBytes (levelsOf c)) ≤ length buffer
+    pub room : length (written (levelsOf c)) ≤ length buffer
 
-  pub bars-room : {buffer : List ℕ} → Accepted buffer → 0 + length (each recordBytes (barRecords (q .highs) (q .lows))) ≤ length buffer
-  bars-room a = room-before (each recordBytes (barRecords (q .highs) (q .lows))) (levelBytes (levelsOf c)) 0 _ (a .room)
-
-  pub accepted : (buffer : List ℕ) → writeRefusal c q buffer ≡ 0 → Accepted buffer
-  unfolding writeRefusal badQuotes
-  accepted buffer h =
-      let s = ltb (length buffer) (length (written (levelsOf c) q)) in
-      let H = not (allPrices (q .highs)) in
-      let L = not (allPrices (q .lows)) in
-      let k2 = refuse s 3 0 in
-      let k1 = refuse (H || L) 1 k2 in
-      let k0 = refuse (unequal q) 8 k1 in
-      let h0 = refuse-on (badChart c) 20 k0 h in
-      let h1 = refuse-on (unequal q) 7 k1 h0 in
-      let h2 = refuse-on (H || L) 0 k2 h1 in
-      let p = refuse-no (H || L) 0 k2 h1 in
-      let r = ltb-false (length buffer) (length (written (levelsOf c) q)) (refuse-no s 2 0 h2) in
+  pub accepted : writeRefusal c buffer ≡ 0 → Accepted
+  unfolding writeRefusal
+  accepted h =
+      let s = ltb (length buffer) (length (written (levelsOf c))) in
       record {
-        good = refuse-no (badChart c) 20 k0 h;
-        equal = equal-slices (refuse-no (unequal q) 7 k1 h0);
-        prices = (not-false _ (or-l H L p), not-false _ (or-r H L p));
-        room = omega (arith, ap length written-split);
+        good = refuse-no (badChart c) 20 (refuse s 3 0) h;
+        room = ltb-false (length buffer) (length (written (levelsOf c))) (refuse-no s 2 0 (refuse-on (badChart c) 20 (refuse s 3 0) h));
       }
 
   pub refused-call :
-      (n count : ℕ) (buffer : List ℕ) → (n ≡ 0 → ⊥) → n ≡ writeRefusal c q buffer
-      → (answered n count ≡ writeCall c q buffer) × (buffer ≡ bufferAfter c q buffer)
+      (n count : ℕ) → (n ≡ 0 → ⊥) → n ≡ writeRefusal c buffer → (answered n count ≡ writeCall c buffer) × (buffer ≡ bufferAfter c buffer)
   unfolding answered writeCall bufferAfter
-  refused-call zero count buffer h e = absurd (h refl)
-  refused-call (suc n) count buffer h e = (rw (← e), rw (← e, bufferAfter))
+  refused-call zero count h e = absurd (h refl)
+  refused-call (suc n) count h e = (rw (← e), rw (← e, bufferAfter))
 
   pub given-call :
-      (n count : ℕ) (old new : List ℕ) → n ≡ 0 → n ≡ writeRefusal c q old
-      → Stage 0 (each recordBytes (barRecords (q .highs) (q .lows)) ++ levelBytes (levelsOf c)) old count new
-      → (answered 0 count ≡ writeCall c q old) × (new ≡ bufferAfter c q old)
+      (n count : ℕ) (new : List ℕ) → n ≡ 0 → n ≡ writeRefusal c buffer
+      → (count ≡ length (written (levelsOf c))) × (new ≡ fill (written (levelsOf c)) buffer)
+      → (answered 0 count ≡ writeCall c buffer) × (new ≡ bufferAfter c buffer)
   unfolding answered writeCall bufferAfter
-  given-call n count old new h e s =
-      let z : writeRefusal c q old ≡ 0 = sym e ∙ h in
-      let m : count ≡ length (written (levelsOf c) q) = omega (arith, s .place, ap length written-split) in
-      (rw (z, m), s .same ∙ put-fill _ old ∙ rw (z, bufferAfter, written-split))
+  given-call n count new h e s = let z : writeRefusal c buffer ≡ 0 = sym e ∙ h in (rw (z, s .0), s .1 ∙ rw (bufferAfter, z))

@@ -1,26 +1,23 @@
 -- The records of a level that are left from place i on: the next one, and none. Assumes nothing.
 use Prim.Native.Nat.{ℕ, _+_, _≤_, _<_}
 use native.Mathlib.Omega.{arith}
-use native.Mathlib.Numerals.{add-one}
 use mathlib.Core.Path.{_≡_, refl, ap}
 use mathlib.Core.Bool.{false}
 use mathlib.Core.List.{List, [], map}
-use lib.ListN.{length, getD, take, drop, drop-of-length-le}
-use lib.Seq.{drop-cons}
-use lib.Ieee.{Float, nan}
+use lib.ListN.{length, getD, take, drop}
 use Rattle.chart.specs.declared.Stroke.{Stroke}
 use Rattle.chart.specs.declared.Triple.{Triple}
 use Rattle.price.specs.Bytes.{bytesOf}
 use Rattle.rules.specs.Lists.{any, each}
 use Rattle.rules.specs.Refusals.{badPrices, wrongStroke, aboveOne}
-use Rattle.rules.specs.File.{stroke, bar, kind, width, tripleBytes, recordBytes, barRecords}
+use Rattle.rules.specs.File.{stroke, kind, width, tripleBytes, recordBytes}
 use Rattle.laws.proofs.FileBytes.{length-record}
 use Rattle.laws.proofs.Lists.{any-at}
 use Rattle.laws.proofs.Tests.{or-r}
 use Rattle.laws.proofs.Arrays.{at-in, left-more, left-none}
 use Rattle.levels.proofs.Read.{no-stroke, no-triple}
-use Rattle.chart_write.specs.Put.{marked}
-use Rattle.chart_write.proofs.Put.{Next}
+use Rattle.chart_write.specs.Marked.{marked}
+use Rattle.laws.proofs.FilePut.{Next}
 
 -- how long a record is
 length-marked : (a b : ℕ) (t : Triple) → length (marked a b t) ≡ 7
@@ -29,11 +26,7 @@ length-marked a b t = refl
 
 length-stroke : (s : Stroke) → length (recordBytes (stroke s)) ≡ 23
 unfolding width kind
-length-stroke s = length-record (stroke s)
-
-length-bar : (h l : Float) → length (recordBytes (bar h l)) ≡ 18
-unfolding width kind
-length-bar h l = length-record (bar h l)
+length-stroke s = length-record (stroke s) tt
 
 module _ (a b n i : ℕ) (xs : List Triple) (h : n ≤ length xs) where
   pub triple-next :
@@ -63,19 +56,3 @@ module _ (n i : ℕ) (xs : List Stroke) (h : n ≤ length xs) where
   stroke-prices k e =
       let s = getD xs i no-stroke in
       or-r (aboveOne (s .direction)) (badPrices s) (any-at wrongStroke (take n xs) i s e (at-in n i xs no-stroke k (omega arith)))
-
-module _ (i : ℕ) (hs ls : List Float) (e : length hs ≡ length ls) where
-  pub bar-next :
-      i < length hs
-      → Next 18 (each recordBytes (barRecords (drop i hs) (drop i ls))) (recordBytes (bar (getD hs i nan) (getD ls i nan)))
-      (each recordBytes (barRecords (drop (i + 1) hs) (drop (i + 1) ls)))
-  unfolding barRecords
-  bar-next k =
-      record {
-        split = rw (add-one i, drop-cons hs i nan k, drop-cons ls i nan (omega arith));
-        size = length-bar (getD hs i nan) (getD ls i nan);
-      }
-
-  pub bar-none : length hs ≤ i → each recordBytes (barRecords (drop i hs) (drop i ls)) ≡ []
-  unfolding barRecords
-  bar-none k = rw (drop-of-length-le hs {i = i} k)

@@ -1,5 +1,4 @@
 -- Laws that the proofs cite. Each function has its proof in the folder of its name.
 pub mod Records
-pub mod Put
 pub mod Levels
 pub mod Call

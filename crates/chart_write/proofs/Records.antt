@@ -1,12 +1,10 @@
 -- The bytes of one record, as an array holds them. Assumes nothing.
 use Prim.Native.Nat.{ℕ, _/_, _%_, _<_}
 use native.Mathlib.Omega.{arith}
-use mathlib.Core.Path.{_≡_, refl, _∙_}
+use mathlib.Core.Path.{_≡_, refl}
 use mathlib.Core.Bool.{false, not}
-use mathlib.Core.List.{List, [], _∷_, _++_}
-use lib.ListN.{length, getD, take, drop}
-use lib.Seq.{take-length}
-use lib.Ieee.{Float}
+use mathlib.Core.List.{List, [], _∷_}
+use lib.ListN.{getD}
 use borrow.Author.Tests.{not-false}
 use Rattle.chart.specs.declared.Stroke.{Stroke}
 use Rattle.chart.specs.declared.Triple.{Triple}
@@ -14,9 +12,9 @@ use Rattle.price.specs.Price.{isPrice, Price}
 use Rattle.price.specs.Bytes.{bytesOf, priceBytes}
 use Rattle.rules.specs.Text.{ascii}
 use Rattle.rules.specs.Refusals.{badPrices}
-use Rattle.rules.specs.File.{stroke, segment, big, superior, bar, kind, markOf, strokeBytes, tripleBytes, fieldBytes, recordBytes, fill}
+use Rattle.rules.specs.File.{stroke, segment, big, superior, kind, markOf, strokeBytes, tripleBytes, fieldBytes, recordBytes}
 use Rattle.laws.proofs.Tests.{or-l, or-r}
-use Rattle.chart_write.specs.Put.{marked}
+use Rattle.chart_write.specs.Marked.{marked}
 
 -- a stroke that can be written has two prices
 pub start-price : (s : Stroke) → badPrices s ≡ false → Price (s .«start_price»)
@@ -47,21 +45,6 @@ pub triple-made :
     → u ≡ t .last % 256 → v ≡ t .last / 256 % 256 → _≡_ {A = List ℕ} (a ∷ b ∷ d ∷ p ∷ q ∷ u ∷ v ∷ []) (marked a b t)
 unfolding marked tripleBytes bytesOf
 triple-made a b d p q u v t h e f g i j = rw (e, f, g, i, j, ← byte (t .direction) h)
-
-pub bar-made :
-    (h l : Float) (a b : List ℕ) → a ≡ priceBytes h → b ≡ priceBytes l
-    → _≡_ {A = List ℕ}
-    (66 ∷ 82
-    ∷ getD a 0 0 ∷ getD a 1 0 ∷ getD a 2 0 ∷ getD a 3 0 ∷ getD a 4 0 ∷ getD a 5 0 ∷ getD a 6 0 ∷ getD a 7 0
-    ∷ getD b 0 0 ∷ getD b 1 0 ∷ getD b 2 0 ∷ getD b 3 0 ∷ getD b 4 0 ∷ getD b 5 0 ∷ getD b 6 0 ∷ getD b 7 0 ∷ [])
-    (recordBytes (bar h l))
-unfolding recordBytes markOf kind ascii fieldBytes bytesOf
-bar-made h l a b e f = rw (e, f)
-
--- an array copied to the start of a lent part
-pub copied :
-    (bytes old new made : List ℕ) → bytes ≡ made → new ≡ take (length bytes) bytes ++ drop (length bytes) old → new ≡ fill made old
-copied bytes old new made e h = h ∙ rw (take-length bytes, e)
 
 -- the marks of the three kinds
 pub segment-mark : (t : Triple) → marked 83 71 t ≡ recordBytes (segment t)

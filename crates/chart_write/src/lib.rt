@@ -3,18 +3,17 @@ use chart::Chart;
 use chart::Stroke;
 use chart::Triple;
 ghost use mathlib.Core.Path.{_≡_};
-ghost use mathlib.Core.Bool.{true, false};
+ghost use mathlib.Core.Bool.{false};
 ghost use mathlib.Core.List.{map};
 ghost use Prim.Native.Nat.{_+_, _*_, _≤_};
 ghost use lib.ListN.{length, take};
-ghost use lib.Dec.{ltb};
-ghost use Rattle.price.specs.Price.{Price, allPrices};
 ghost use Rattle.rules.specs.Answer.{answered};
 ghost use Rattle.rules.specs.Lists.{any, each};
-ghost use Rattle.rules.specs.Records.{Quotes, levelsOf};
-ghost use Rattle.rules.specs.Refusals.{refuse, badPrices, wrongStroke, badChart, badQuotes};
-ghost use Rattle.rules.specs.File.{Record, stroke, bar, recordBytes, barRecords, fill, writeRefusal, writeCall, bufferAfter};
-ghost use Rattle.chart_write.specs.Put.{putAt, marked, levelBytes};
+ghost use Rattle.rules.specs.Records.{levelsOf};
+ghost use Rattle.rules.specs.Refusals.{refuse, badPrices, wrongStroke, badChart};
+ghost use Rattle.rules.specs.File.{stroke, recordBytes, fill, written, writeRefusal, writeCall, bufferAfter};
+ghost use Rattle.laws.specs.Put.{putAt};
+ghost use Rattle.chart_write.specs.Marked.{marked};
 
 // ---- one record
 
@@ -67,35 +66,6 @@ fn triple_bytes(a: u8, b: u8, t: Triple) -> [u8; 7]
     ]
 }
 
-// A bar's record: the high, then the low.
-fn bar_bytes(high: f64, low: f64) -> [u8; 18]
-    requires { ⌜ Price high × Price low ⌝ }
-    ensures { λ r. ⌜ r ≡ recordBytes (bar high low) ⌝ }
-{
-    let a = fields::price_bytes(high);
-    let b = fields::price_bytes(low);
-    [
-        b'B',
-        b'R',
-        a[0],
-        a[1],
-        a[2],
-        a[3],
-        a[4],
-        a[5],
-        a[6],
-        a[7],
-        b[0],
-        b[1],
-        b[2],
-        b[3],
-        b[4],
-        b[5],
-        b[6],
-        b[7],
-    ]
-}
-
 // Each of these writes one record at the start of the part of the buffer that it is lent.
 
 fn put_stroke(out: &mut [u8], s: Stroke)
@@ -115,34 +85,8 @@ fn put_triple(out: &mut [u8], a: u8, b: u8, t: Triple)
     bytes::copy(&bytes, out);
 }
 
-fn put_bar(out: &mut [u8], high: f64, low: f64)
-    requires { ⌜ 18 ≤ length (now out) ⌝ }
-    requires { ⌜ Price high × Price low ⌝ }
-    ensures { λ _. ⌜ now (out .exit) ≡ fill (recordBytes (bar high low)) (now (out .entry)) ⌝ }
-{
-    let bytes = bar_bytes(high, low);
-    bytes::copy(&bytes, out);
-}
-
 // ---- one level. Each of these writes its records into the buffer from place `at` on, and gives the place behind them.
 // The part that starts at a record's place is lent for it.
-
-fn put_bars(highs: &[f64], lows: &[f64], buffer: &mut [u8], at: usize) -> usize
-    requires { ⌜ length (now highs) ≡ length (now lows) ⌝ }
-    requires { ⌜ (allPrices (now highs) ≡ true) × (allPrices (now lows) ≡ true) ⌝ }
-    requires { ⌜ at + length (each recordBytes (barRecords (now highs) (now lows))) ≤ length (now buffer) ⌝ }
-    ensures { λ r. ⌜ r ≡ at + length (each recordBytes (barRecords (now (highs .entry)) (now (lows .entry)))) ⌝ }
-    ensures { λ _. ⌜ now (buffer .exit) ≡ putAt (each recordBytes (barRecords (now (highs .entry)) (now (lows .entry)))) at (now (buffer .entry)) ⌝ }
-{
-    let mut end = at;
-    let mut i = 0usize;
-    while i < highs.len() {
-        put_bar(&mut buffer[end..], highs[i], lows[i]);
-        end += 18;
-        i += 1;
-    }
-    end
-}
 
 fn put_strokes(strokes: [Stroke; 512], n: u16, buffer: &mut [u8], at: usize) -> usize
     requires { ⌜ n ≤ 512 ⌝ }
@@ -180,18 +124,18 @@ fn put_triples(a: u8, b: u8, triples: [Triple; 256], n: u16, buffer: &mut [u8], 
     end
 }
 
-// The four levels of a chart, which is not refused with 21.
-fn put_levels(chart: Chart, buffer: &mut [u8], at: usize) -> usize
+// The four levels of a chart, which is not refused with 21, from the start of the buffer on.
+fn put_levels(chart: Chart, buffer: &mut [u8]) -> usize
     requires { ⌜ badChart chart ≡ false ⌝ }
-    requires { ⌜ at + length (levelBytes (levelsOf chart)) ≤ length (now buffer) ⌝ }
-    ensures { λ r. ⌜ r ≡ at + length (levelBytes (levelsOf chart)) ⌝ }
-    ensures { λ _. ⌜ now (buffer .exit) ≡ putAt (levelBytes (levelsOf chart)) at (now (buffer .entry)) ⌝ }
+    requires { ⌜ length (written (levelsOf chart)) ≤ length (now buffer) ⌝ }
+    ensures { λ r. ⌜ r ≡ length (written (levelsOf chart)) ⌝ }
+    ensures { λ _. ⌜ now (buffer .exit) ≡ fill (written (levelsOf chart)) (now (buffer .entry)) ⌝ }
 {
     let strokes = chart.strokes;
     let segments = chart.segments;
     let bigs = chart.bigs;
     let superiors = chart.superiors;
-    let mut end = put_strokes(strokes, chart.stroke_count, buffer, at);
+    let mut end = put_strokes(strokes, chart.stroke_count, buffer, 0);
     end = put_triples(b'S', b'G', segments, chart.segment_count, buffer, end);
     end = put_triples(b'B', b'G', bigs, chart.big_count, buffer, end);
     put_triples(b'S', b'U', superiors, chart.superior_count, buffer, end)
@@ -206,39 +150,12 @@ fn levels_size(strokes: u16, segments: u16, bigs: u16, superiors: u16) -> usize
     23 * strokes as usize + 7 * segments as usize + 7 * bigs as usize + 7 * superiors as usize
 }
 
-// Whether a buffer of so many bytes is too short for levels of this size and some bars. By a quotient, since 18 bytes for each bar
-// might not fit a usize.
-fn too_short(room: usize, size: usize, bars: usize) -> bool
-    ensures { λ r. ⌜ r ≡ ltb room (size + 18 * bars) ⌝ }
-{
-    if room < size {
-        return true;
-    }
-    (room - size) / 18 < bars
-}
-
-// Whether some high or low is no price.
-fn bad_quotes(highs: &[f64], lows: &[f64]) -> bool
-    ensures { λ r. ⌜ r ≡ badQuotes (record { highs = now (highs .entry); lows = now (lows .entry) }) ⌝ }
-{
-    if price::all_prices(highs) {
-        return !price::all_prices(lows);
-    }
-    true
-}
-
 // The number of the first refusal that applies, 0 where none does.
-fn first_of(bad: bool, unequal: bool, wrong: bool, short: bool) -> u8
-    ensures { λ r. ⌜ r ≡ refuse bad 21 (refuse unequal 8 (refuse wrong 1 (refuse short 3 0))) ⌝ }
+fn first_of(bad: bool, short: bool) -> u8
+    ensures { λ r. ⌜ r ≡ refuse bad 21 (refuse short 3 0) ⌝ }
 {
     if bad {
         return 21;
-    }
-    if unequal {
-        return 8;
-    }
-    if wrong {
-        return 1;
     }
     if short {
         return 3;
@@ -246,9 +163,9 @@ fn first_of(bad: bool, unequal: bool, wrong: bool, short: bool) -> u8
     0
 }
 
-// 21; 8 slices unequal; 1 in either slice; 3 buffer too short. The size by counts is that of the bytes where 21 and 8 don't apply.
-pub fn refusal(chart: Chart, highs: &[f64], lows: &[f64], buffer: &[u8]) -> u8
-    ensures { λ r. ⌜ r ≡ writeRefusal chart (record { highs = now (highs .entry); lows = now (lows .entry) }) (now (buffer .entry)) ⌝ }
+// 21; 3 buffer too short. The size by counts is that of the bytes where 21 doesn't apply.
+pub fn refusal(chart: Chart, buffer: &[u8]) -> u8
+    ensures { λ r. ⌜ r ≡ writeRefusal chart (now (buffer .entry)) ⌝ }
 {
     let size = levels_size(
         chart.stroke_count,
@@ -256,12 +173,9 @@ pub fn refusal(chart: Chart, highs: &[f64], lows: &[f64], buffer: &[u8]) -> u8
         chart.big_count,
         chart.superior_count,
     );
-    first_of(
-        levels::bad_chart(chart),
-        highs.len() != lows.len(),
-        bad_quotes(highs, lows),
-        too_short(buffer.len(), size, highs.len()),
-    )
+    let bad = levels::bad_chart(chart);
+    let short = buffer.len() < size;
+    first_of(bad, short)
 }
 
 // ---- the call
@@ -272,23 +186,20 @@ pub struct Written {
     pub count: usize,
 }
 
-// Writes bars, strokes, segments, bigs, superiors: 21; 8 slices unequal; 1 in either slice; 3 buffer too short. A refused writing
-// leaves the buffer as it was.
-pub fn write_chart(chart: Chart, highs: &[f64], lows: &[f64], buffer: &mut [u8]) -> Written
-    ensures { λ r. ⌜ answered (r .number) (r .count)
-        ≡ writeCall chart (record { highs = now (highs .entry); lows = now (lows .entry) }) (now (buffer .entry)) ⌝ }
-    ensures { λ r. ⌜ now (buffer .exit) ≡ bufferAfter chart (record { highs = now (highs .entry); lows = now (lows .entry) }) (now (buffer .entry)) ⌝ }
+// Writes strokes, segments, bigs, superiors: 21; 3 buffer too short. A refused writing leaves the buffer as it was.
+pub fn write_chart(chart: Chart, buffer: &mut [u8]) -> Written
+    ensures { λ r. ⌜ answered (r .number) (r .count) ≡ writeCall chart (now (buffer .entry)) ⌝ }
+    ensures { λ r. ⌜ now (buffer .exit) ≡ bufferAfter chart (now (buffer .entry)) ⌝ }
     ensures { λ r. ⌜ ((r .number ≡ 0 → ⊥) → r .count ≡ 0) ⌝ }
 {
-    let number = refusal(chart, highs, lows, &buffer[..]);
+    let number = refusal(chart, &buffer[..]);
     if number != 0 {
         return Written {
             number: number,
             count: 0,
         };
     }
-    let at = put_bars(highs, lows, buffer, 0);
-    let count = put_levels(chart, buffer, at);
+    let count = put_levels(chart, buffer);
     Written {
         number: 0,
         count: count,

@@ -32,6 +32,19 @@ unfolding answered
 answered-refused zero n a h e = absurd (h (sym e))
 answered-refused (suc r) n a h e = rw e
 
+-- of two answers that are the same, the numbers are, and what is given
+module _ {A : Type 0} where
+  pub same-number : (n m : ℕ) (a b : A) → answered n a ≡ answered m b → n ≡ m
+  unfolding answered
+  same-number zero zero a b e = refl
+  same-number zero (suc m) a b e = absurd (refused-given (sym e))
+  same-number (suc n) zero a b e = absurd (refused-given e)
+  same-number (suc n) (suc m) a b e = cc
+
+  pub same-given : (a b : A) → answered 0 a ≡ answered 0 b → a ≡ b
+  unfolding answered
+  same-given a b e = cc
+
 -- what a struct that stands for an answer has: the rows that are given, or the number of the refusal
 module _ {A : Type 0} (count : ℕ) (rows : List A) (r : ℕ) (l : List A) where
   pub record Rows : Type 0 where

@@ -1,11 +1,12 @@
 -- One record as bytes: what is written is read back, and what is read of bytes can be written. Assumes nothing.
-use Prim.Native.Nat.{ℕ, zero, suc, _^_, _<_}
+use Prim.Native.Nat.{ℕ, zero, suc, _^_, _≤_, _<_}
 use native.Mathlib.Nat.{pow-suc}
 use native.Mathlib.Omega.{arith}
 use mathlib.Core.Path.{_≡_, refl, ap, _∙_}
-use mathlib.Core.Bool.{Bool, false, not, _||_}
+use mathlib.Core.Bool.{Bool, true, false, not, _||_}
 use mathlib.Core.List.{List, _++_, append-assoc}
 use lib.ListN.{length, take, length-append}
+use lib.Seq.{take-at, length-take-le}
 use lib.Dec.{leb}
 use lib.Ieee.{Float, binary64, ofBits, toBits}
 use lib.Ieee.Bits.{ofBits-toBits, toBits-lt}
@@ -62,17 +63,26 @@ wide (stroke s) = wideTwo (s .«start_bar») (s .«end_bar»)
 wide (segment t) = wideTwo (t .first) (t .last)
 wide (big t) = wideTwo (t .first) (t .last)
 wide (superior t) = wideTwo (t .first) (t .last)
-wide (bar h l) = false
+wide (bar bytes) = false
+
+-- a bar has as many bytes as one takes; a record of another kind is made up of its fields
+abbrev pub Whole : Record → Type 0
+Whole (stroke s) = Unit {0}
+Whole (segment t) = Unit {0}
+Whole (big t) = Unit {0}
+Whole (superior t) = Unit {0}
+Whole (bar bytes) = length bytes ≡ 16
 
 pub record Good (r : Record) : Type 0 where
   pub right : fieldRefusal r ≡ 0
   pub narrow : wide r ≡ false
+  pub whole : Whole r
 
 -- ---- it is read back
 
-price-back : (x : Float) → not (isPrice x) ≡ false → ofBits binary64 (ofBytes (priceBytes x)) ≡ x
+pub price-back : (x : Float) → isPrice x ≡ true → ofBits binary64 (ofBytes (priceBytes x)) ≡ x
 price-back x e =
-    let f = price-fits x (not-false _ e) in
+    let f = price-fits x e in
     ap (ofBits binary64) (ofBytes-bytesOf 8 (toBits binary64 x) (toBits-lt binary64 x f)) ∙ ofBits-toBits binary64 x f
 
 two-back : (a b : ℕ) → wideTwo a b ≡ false → (ofBytes (bytesOf 2 a) ≡ a) × (ofBytes (bytesOf 2 b) ≡ b)
@@ -100,33 +110,25 @@ stroke-back s rest g =
       direction-back (s .direction) _ (g .right),
       i .0,
       i .1,
-      price-back (s .«start_price») (or-l p q both),
-      price-back (s .«end_price») (or-r p q both),
+      price-back (s .«start_price») (not-false _ (or-l p q both)),
+      price-back (s .«end_price») (not-false _ (or-r p q both)),
     )
 
-bar-back : (h l : Float) (rest : List ℕ) → Good (bar h l) → recordIn BR ((priceBytes h ++ priceBytes l) ++ rest) ≡ bar h l
-unfolding recordIn number price bytesOf fieldRefusal
-bar-back h l rest g =
-    let p = not (isPrice h) in
-    let q = not (isPrice l) in
-    let both = refuse-no (p || q) 0 0 (g .right) in
-    rw (price-back h (or-l p q both), price-back l (or-r p q both))
-
 fields-back : (r : Record) (rest : List ℕ) → Good r → recordIn (kind r) (fieldBytes r ++ rest) ≡ r
-unfolding recordIn kind fieldBytes fieldRefusal wide
+unfolding recordIn kind width fieldBytes fieldRefusal wide
 fields-back (stroke s) rest g = ap stroke (stroke-back s rest g)
 fields-back (segment t) rest g = ap segment (triple-back t rest (g .right) (g .narrow))
 fields-back (big t) rest g = ap big (triple-back t rest (g .right) (g .narrow))
 fields-back (superior t) rest g = ap superior (triple-back t rest (g .right) (g .narrow))
-fields-back (bar h l) rest g = bar-back h l rest g
+fields-back (bar bytes) rest g = ap bar (take-at bytes rest 16 (g .whole))
 
-pub length-fields : (r : Record) → length (fieldBytes r) ≡ width (kind r)
+pub length-fields : (r : Record) → Whole r → length (fieldBytes r) ≡ width (kind r)
 unfolding fieldBytes strokeBytes tripleBytes bytesOf width kind
-length-fields (stroke s) = refl
-length-fields (segment t) = refl
-length-fields (big t) = refl
-length-fields (superior t) = refl
-length-fields (bar h l) = refl
+length-fields (stroke s) h = refl
+length-fields (segment t) h = refl
+length-fields (big t) h = refl
+length-fields (superior t) h = refl
+length-fields (bar bytes) h = h
 
 length-mark : (k : Kind) → length (markOf k) ≡ 2
 unfolding markOf ascii
@@ -136,9 +138,9 @@ length-mark BG = refl
 length-mark SU = refl
 length-mark BR = refl
 
-pub length-record : (r : Record) → length (recordBytes r) ≡ suc (suc (width (kind r)))
+pub length-record : (r : Record) → Whole r → length (recordBytes r) ≡ suc (suc (width (kind r)))
 unfolding recordBytes
-length-record r = omega (arith, length-append (markOf (kind r)) (fieldBytes r), length-mark (kind r), length-fields r)
+length-record r h = omega (arith, length-append (markOf (kind r)) (fieldBytes r), length-mark (kind r), length-fields r h)
 
 pub record-back :
     (fullOf : Kind → Bool) (r : Record) (rest : List ℕ) → Good r → fullOf (kind r) ≡ false → readRecord fullOf (recordBytes r ++ rest) ≡ given r
@@ -148,7 +150,7 @@ record-back fullOf r rest g f =
     let same = fields-back r rest g in
     ap (readRecord fullOf) (append-assoc (markOf (kind r)) (fieldBytes r) rest)
     ∙ read-known fullOf (kind r) bytes
-    ∙ behind-given fullOf bytes (kind r) (omega (arith, length-append (fieldBytes r) rest, length-fields r)) f (ap fieldRefusal same ∙ g .right)
+    ∙ behind-given fullOf bytes (kind r) (omega (arith, length-append (fieldBytes r) rest, length-fields r (g .whole))) f (ap fieldRefusal same ∙ g .right)
     ∙ ap given same
 
 -- ---- where the numbers of a file are bytes
@@ -176,3 +178,11 @@ narrow-in SG l B = narrow-two l B
 narrow-in BG l B = narrow-two l B
 narrow-in SU l B = narrow-two l B
 narrow-in BR l B = refl
+
+pub whole-in : (k : Kind) (l : List ℕ) → width k ≤ length l → Whole (recordIn k l)
+unfolding recordIn width
+whole-in ST l h = tt
+whole-in SG l h = tt
+whole-in BG l h = tt
+whole-in SU l h = tt
+whole-in BR l h = length-take-le 16 l h

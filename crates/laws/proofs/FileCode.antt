@@ -13,7 +13,7 @@ use Rattle.chart.specs.declared.Triple.{Triple}
 use Rattle.chart.specs.declared.Chart.{Chart}
 use Rattle.price.specs.Bytes.{ofBytes}
 use Rattle.rules.specs.Lists.{any}
-use Rattle.rules.specs.Records.{levelsOf, Quotes}
+use Rattle.rules.specs.Records.{levelsOf}
 use Rattle.rules.specs.File.{Record, stroke, segment, big, superior, bar, number, price, strokeIn, tripleIn, append, fill}
 use Rattle.laws.proofs.Lists.{false-any, all-getD}
 use Rattle.laws.proofs.Levels as level
@@ -31,22 +31,22 @@ module _ (c : Chart) where
   Room (segment t) = HasPlace (above level.segment)
   Room (big t) = HasPlace (above level.big)
   Room (superior t) = HasPlace (above level.superior)
-  Room (bar h l) = Unit {0}
+  Room (bar bytes) = Unit {0}
 
   abbrev pub stored : Record → Chart
   stored (stroke s) = grown level.stroke c s
   stored (segment t) = grown (above level.segment) c t
   stored (big t) = grown (above level.big) c t
   stored (superior t) = grown (above level.superior) c t
-  stored (bar h l) = c
+  stored (bar bytes) = c
 
-  pub levels-stored : (q : Quotes) (r : Record) → Room r → levelsOf (stored r) ≡ append (record { levels = levelsOf c; bars = q }) r .levels
+  pub levels-stored : (n : ℕ) (r : Record) → Room r → levelsOf (stored r) ≡ append (record { levels = levelsOf c; passed = n }) r .levels
   unfolding levelsOf append
-  levels-stored q (stroke s) h = grown-is c level.stroke s h
-  levels-stored q (segment t) h = grown-is c (above level.segment) t h
-  levels-stored q (big t) h = grown-is c (above level.big) t h
-  levels-stored q (superior t) h = grown-is c (above level.superior) t h
-  levels-stored q (bar x l) h = refl
+  levels-stored n (stroke s) h = grown-is c level.stroke s h
+  levels-stored n (segment t) h = grown-is c (above level.segment) t h
+  levels-stored n (big t) h = grown-is c (above level.big) t h
+  levels-stored n (superior t) h = grown-is c (above level.superior) t h
+  levels-stored n (bar bytes) h = refl
 
 -- ---- a buffer, or a lent slice, that is filled further
 

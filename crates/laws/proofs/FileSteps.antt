@@ -100,10 +100,16 @@ kind-in BG bytes = refl
 kind-in SU bytes = refl
 kind-in BR bytes = refl
 
-answered-zero : {A : Type 0} (m : ℕ) (x y : A) → answered m x ≡ given y → (m ≡ 0) × (x ≡ y)
+pub answered-zero : {A : Type 0} (m : ℕ) (x y : A) → answered m x ≡ given y → (m ≡ 0) × (x ≡ y)
 unfolding answered
 answered-zero zero x y e = (refl, cc)
 answered-zero (suc m) x y e = absurd (refused-given e)
+
+-- and none is refused with 0
+pub answered-above : {A : Type 0} (m : ℕ) (x : A) (k : ℕ) → answered m x ≡ refused k → 0 < k
+unfolding answered
+answered-above zero x k e = absurd (refused-given (sym e))
+answered-above (suc m) x k e = let z : suc m ≡ k = cc in omega arith
 
 behind-accepted :
     (fullOf : Kind → Bool) (a b : ℕ) (bytes : List ℕ) (o : Option Kind) (r : Record)
@@ -130,90 +136,90 @@ accepted fullOf (a ∷ b ∷ bytes) r e = behind-accepted fullOf a b bytes (kind
 
 -- ---- a reading as a row of steps
 
-pub data Reading (n : ℕ) : ℕ → Content → ℕ → List ℕ → AnswerBy NumberAt Content → Type 0 where
-  done : {at : ℕ} {c : Content} {skip : ℕ} → Reading n at c skip [] (given c)
+pub data Reading : ℕ → Content → ℕ → List ℕ → AnswerBy NumberAt Content → Type 0 where
+  done : {at : ℕ} {c : Content} {skip : ℕ} → Reading at c skip [] (given c)
   over :
       {at : ℕ} {c : Content} {skip b : ℕ} {bytes : List ℕ} {a : AnswerBy NumberAt Content}
-      → Reading n (suc at) c skip bytes a → Reading n at c (suc skip) (b ∷ bytes) a
+      → Reading (suc at) c skip bytes a → Reading at c (suc skip) (b ∷ bytes) a
   stop :
       {at : ℕ} {c : Content} {b : ℕ} {bytes : List ℕ} {k : ℕ}
-      → readRecord (full n c) (b ∷ bytes) ≡ refused k → Reading n at c 0 (b ∷ bytes) (refused (record { number = k; place = at }))
+      → readRecord (full (c .levels)) (b ∷ bytes) ≡ refused k → Reading at c 0 (b ∷ bytes) (refused (record { number = k; place = at }))
   next :
       {at : ℕ} {c : Content} {b : ℕ} {bytes : List ℕ} {r : Record} {a : AnswerBy NumberAt Content}
-      → readRecord (full n c) (b ∷ bytes) ≡ given r → Reading n (suc at) (append c r) (suc (width (kind r))) bytes a
-      → Reading n at c 0 (b ∷ bytes) a
+      → readRecord (full (c .levels)) (b ∷ bytes) ≡ given r → Reading (suc at) (append c r) (suc (width (kind r))) bytes a
+      → Reading at c 0 (b ∷ bytes) a
 
-pub reading : (n at : ℕ) (c : Content) (skip : ℕ) (bytes : List ℕ) → Reading n at c skip bytes (readFrom n at c skip bytes)
+pub reading : (at : ℕ) (c : Content) (skip : ℕ) (bytes : List ℕ) → Reading at c skip bytes (readFrom at c skip bytes)
 unfolding readFrom
-reading n at c skip [] = done
-reading n at c (suc skip) (b ∷ bytes) = over (reading n (suc at) c skip bytes)
-reading n at c zero (b ∷ bytes) =
-    go (readRecord (full n c) (b ∷ bytes)) refl (λ (r : Record). reading n (suc at) (append c r) (suc (width (kind r))) bytes)
+reading at c skip [] = done
+reading at c (suc skip) (b ∷ bytes) = over (reading (suc at) c skip bytes)
+reading at c zero (b ∷ bytes) =
+    go (readRecord (full (c .levels)) (b ∷ bytes)) refl (λ (r : Record). reading (suc at) (append c r) (suc (width (kind r))) bytes)
   where
     go :
-        (t : Answer Record) → readRecord (full n c) (b ∷ bytes) ≡ t
-        → ((r : Record) → Reading n (suc at) (append c r) (suc (width (kind r))) bytes (readFrom n (suc at) (append c r) (suc (width (kind r))) bytes))
-        → Reading n at c 0 (b ∷ bytes)
+        (t : Answer Record) → readRecord (full (c .levels)) (b ∷ bytes) ≡ t
+        → ((r : Record) → Reading (suc at) (append c r) (suc (width (kind r))) bytes (readFrom (suc at) (append c r) (suc (width (kind r))) bytes))
+        → Reading at c 0 (b ∷ bytes)
         (elim t [
           | refused k ↦ refused (record { number = k; place = at })
-          | given r ↦ readFrom n (suc at) (append c r) (suc (width (kind r))) bytes
+          | given r ↦ readFrom (suc at) (append c r) (suc (width (kind r))) bytes
         ])
     go (refused k) e f = stop e
     go (given r) e f = next e (f r)
 
-pub reads : {n at : ℕ} {c : Content} {skip : ℕ} {bytes : List ℕ} {a : AnswerBy NumberAt Content} → Reading n at c skip bytes a → readFrom n at c skip bytes ≡ a
+pub reads : {at : ℕ} {c : Content} {skip : ℕ} {bytes : List ℕ} {a : AnswerBy NumberAt Content} → Reading at c skip bytes a → readFrom at c skip bytes ≡ a
 unfolding readFrom
 reads done = refl
 reads (over s) = reads s
 reads (stop e) = rw (readFrom, e)
 reads (next e s) = rw (readFrom, e) (reads s)
 
-pub file-reading : (n : ℕ) (bytes : List ℕ) {a : AnswerBy NumberAt Content} → readFile n bytes ≡ a → Reading n 0 nothing 0 bytes a
+pub file-reading : (bytes : List ℕ) {a : AnswerBy NumberAt Content} → readFile bytes ≡ a → Reading 0 nothing 0 bytes a
 unfolding readFile
-file-reading n bytes e = subst (Reading n 0 nothing 0 bytes) e (reading n 0 nothing 0 bytes)
+file-reading bytes e = subst (Reading 0 nothing 0 bytes) e (reading 0 nothing 0 bytes)
 
 -- ---- the bytes from a place of the file on
 
 -- the rest of a record is passed over
-pub pass-over : (n at : ℕ) (c : Content) (k : ℕ) (bytes : List ℕ) → readFrom n at c k bytes ≡ readFrom n (k + at) c 0 (drop k bytes)
+pub pass-over : (at : ℕ) (c : Content) (k : ℕ) (bytes : List ℕ) → readFrom at c k bytes ≡ readFrom (k + at) c 0 (drop k bytes)
 unfolding readFrom
-pass-over n at c zero bytes = rw (zero-add at)
-pass-over n at c (suc k) [] = refl
-pass-over n at c (suc k) (b ∷ bytes) = pass-over n (suc at) c k bytes ∙ ap (λ (i : ℕ). readFrom n i c 0 (drop k bytes)) (omega arith)
+pass-over at c zero bytes = rw (zero-add at)
+pass-over at c (suc k) [] = refl
+pass-over at c (suc k) (b ∷ bytes) = pass-over (suc at) c k bytes ∙ ap (λ (i : ℕ). readFrom i c 0 (drop k bytes)) (omega arith)
 
 pub read-refused :
-    (n at : ℕ) (c : Content) (bytes : List ℕ) (k : ℕ) → 0 < length bytes → readRecord (full n c) bytes ≡ refused k
-    → readFrom n at c 0 bytes ≡ refused (record { number = k; place = at })
-read-refused n at c [] k h e = absurd (omega arith)
-read-refused n at c (b ∷ bytes) k h e = reads (stop e)
+    (at : ℕ) (c : Content) (bytes : List ℕ) (k : ℕ) → 0 < length bytes → readRecord (full (c .levels)) bytes ≡ refused k
+    → readFrom at c 0 bytes ≡ refused (record { number = k; place = at })
+read-refused at c [] k h e = absurd (omega arith)
+read-refused at c (b ∷ bytes) k h e = reads (stop e)
 
 pub read-given :
-    (n at : ℕ) (c : Content) (bytes : List ℕ) (r : Record) → readRecord (full n c) bytes ≡ given r
-    → readFrom n at c 0 bytes ≡ readFrom n (at + suc (suc (width (kind r)))) (append c r) 0 (drop (suc (suc (width (kind r)))) bytes)
+    (at : ℕ) (c : Content) (bytes : List ℕ) (r : Record) → readRecord (full (c .levels)) bytes ≡ given r
+    → readFrom at c 0 bytes ≡ readFrom (at + suc (suc (width (kind r)))) (append c r) 0 (drop (suc (suc (width (kind r)))) bytes)
 unfolding readRecord
-read-given n at c [] r e = absurd (refused-given e)
-read-given n at c (b ∷ bytes) r e =
+read-given at c [] r e = absurd (refused-given e)
+read-given at c (b ∷ bytes) r e =
     let w = suc (width (kind r)) in
-    reads (next e (reading n (suc at) (append c r) w bytes))
-    ∙ pass-over n (suc at) (append c r) w bytes
-    ∙ ap (λ (i : ℕ). readFrom n i (append c r) 0 (drop w bytes)) (omega arith)
+    reads (next e (reading (suc at) (append c r) w bytes))
+    ∙ pass-over (suc at) (append c r) w bytes
+    ∙ ap (λ (i : ℕ). readFrom i (append c r) 0 (drop w bytes)) (omega arith)
 
-pub at-end : (n at : ℕ) (c : Content) (bytes : List ℕ) → length bytes ≤ at → readFrom n at c 0 (drop at bytes) ≡ given c
+pub at-end : (at : ℕ) (c : Content) (bytes : List ℕ) → length bytes ≤ at → readFrom at c 0 (drop at bytes) ≡ given c
 unfolding readFrom
-at-end n at c bytes h = rw (drop-of-length-le bytes {i = at} h)
+at-end at c bytes h = rw (drop-of-length-le bytes {i = at} h)
 
 pub at-refused :
-    (n at : ℕ) (c : Content) (bytes : List ℕ) (k : ℕ) → at < length bytes → readRecord (full n c) (drop at bytes) ≡ refused k
-    → readFrom n at c 0 (drop at bytes) ≡ refused (record { number = k; place = at })
-at-refused n at c bytes k h e = read-refused n at c (drop at bytes) k (omega (arith, length-drop at bytes)) e
+    (at : ℕ) (c : Content) (bytes : List ℕ) (k : ℕ) → at < length bytes → readRecord (full (c .levels)) (drop at bytes) ≡ refused k
+    → readFrom at c 0 (drop at bytes) ≡ refused (record { number = k; place = at })
+at-refused at c bytes k h e = read-refused at c (drop at bytes) k (omega (arith, length-drop at bytes)) e
 
 pub at-given :
-    (n at : ℕ) (c : Content) (bytes : List ℕ) (r : Record) → readRecord (full n c) (drop at bytes) ≡ given r
-    → readFrom n at c 0 (drop at bytes)
-    ≡ readFrom n (at + suc (suc (width (kind r)))) (append c r) 0 (drop (at + suc (suc (width (kind r)))) bytes)
-at-given n at c bytes r e =
+    (at : ℕ) (c : Content) (bytes : List ℕ) (r : Record) → readRecord (full (c .levels)) (drop at bytes) ≡ given r
+    → readFrom at c 0 (drop at bytes)
+    ≡ readFrom (at + suc (suc (width (kind r)))) (append c r) 0 (drop (at + suc (suc (width (kind r)))) bytes)
+at-given at c bytes r e =
     let w = suc (suc (width (kind r))) in
-    read-given n at c (drop at bytes) r e ∙ ap (readFrom n (at + w) (append c r) 0) (drop-drop w at bytes)
+    read-given at c (drop at bytes) r e ∙ ap (readFrom (at + w) (append c r) 0) (drop-drop w at bytes)
 
 -- two bytes or more: the mark decides
 pub record-at :

@@ -33,6 +33,11 @@ pub mod FileSame
 pub mod FileGood
 pub mod FileLong
 pub mod FileCode
+pub mod FilePut
+pub mod BarsSteps
+pub mod BarsBack
+pub mod BarsLong
+pub mod BarsAnswer
 pub mod Arrays
 pub mod Answers
 pub mod Levels

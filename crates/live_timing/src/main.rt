@@ -1,5 +1,5 @@
 // Makes one call of a live chart many times, for the script oracle/timing to time, and prints a sum of the answers. Arguments: the call and how many
-// times it is made. Calls: build (all records of the chart file on standard input, each by its call), and, on the chart so built, accepted and
+// times it is made. Calls: build (all records of the chart in `chart.dat`, each by its call), and, on the chart so built, accepted and
 // refused. Of this program only safety is proved.
 use chart::Chart;
 use chart::Stroke;
@@ -113,9 +113,7 @@ fn sum_of(name: [u8; 8], chart: Chart, turns: u32) -> u16 {
 
 // The sum of the turns on a chart file, or `refused N at P` alone.
 fn print_sum(file: &[u8], name: [u8; 8], turns: u32) {
-    let mut highs = [0.0; 2048];
-    let mut lows = [0.0; 2048];
-    let read = chart_read::read_chart(file, &mut highs, &mut lows);
+    let read = chart_read::read_chart(file);
     if read.number != 0 {
         printing::print_refused(read.number, read.place);
         return;
@@ -125,10 +123,10 @@ fn print_sum(file: &[u8], name: [u8; 8], turns: u32) {
 }
 
 fn main() {
-    let mut buffer = io::large_buffer();
-    let n = io::read_full(0, &mut buffer);
+    let mut chart = files::chart_room();
+    let n = files::read_file(b"chart.dat", &mut chart);
     print_sum(
-        &buffer[..n],
+        &chart[..n],
         arguments::word(1),
         arguments::number(arguments::word(2)),
     );

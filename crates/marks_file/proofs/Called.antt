@@ -18,7 +18,7 @@ use Rattle.rules.specs.Marks.{side, quote, nMarks}
 use Rattle.rules.specs.Refusals.{refuse, badChart, badSlices, badQuotes, endsOutside, zonesRefusal, nRefusal}
 use Rattle.rules.specs.Calls.{nCall}
 use Rattle.rules.specs.Text.{marksText, refusedLine}
-use Rattle.rules.specs.File.{marksOf}
+use Rattle.rules.specs.Program.{marksOf}
 use Rattle.laws.proofs.Tests.{or-l, or-r, refuse-no, refuse-on}
 use Rattle.laws.proofs.Lists.{all-map, false-any, at-lt, at-getD}
 use Rattle.laws.proofs.Answers.{answered-refused, Rows, call-number, call-rows}
@@ -45,7 +45,7 @@ marks-priced l q h =
 
 module _ (c : Chart) (q : Quotes) (good : badChart c ≡ false) (number count : ℕ) (rows : List NMark) (e : rowsAnswer number count rows ≡ nCall c q) where
   -- a refusal is printed with the place 0
-  pub call-refused : (number ≡ 0 → ⊥) → marksOf (record { levels = levelsOf c; bars = q }) ≡ refusedLine number 0
+  pub call-refused : (number ≡ 0 → ⊥) → marksOf (levelsOf c) q ≡ refusedLine number 0
   unfolding marksOf nCall
   call-refused h =
       let r = call-number c (λ (l : Levels). nRefusal l q) (λ (l : Levels). nMarks l q) number count rows e good in
@@ -56,7 +56,7 @@ module _ (c : Chart) (q : Quotes) (good : badChart c ≡ false) (number count : 
   found z = call-rows c (λ (l : Levels). nRefusal l q) (λ (l : Levels). nMarks l q) number count rows e z
 
   -- marks have a line each
-  pub call-given : number ≡ 0 → marksOf (record { levels = levelsOf c; bars = q }) ≡ marksText (take count rows)
+  pub call-given : number ≡ 0 → marksOf (levelsOf c) q ≡ marksText (take count rows)
   unfolding marksOf answered
   call-given z = let r = found z in rw (marksOf, r .accepted, r .same)
 

@@ -1,3 +1,4 @@
 pub mod Called
 pub mod Read
+pub mod Bars
 pub mod Input

@@ -1,70 +1,89 @@
--- What is printed of a file, by reading's answer. Assumes nothing.
-use Prim.Native.Nat.{ℕ, zero, suc, _≤_}
+-- What is printed of a chart file, by reading's answer. Assumes nothing.
+use Prim.Native.Nat.{ℕ, _≤_, _<_}
 use native.Mathlib.Omega.{arith}
-use mathlib.Core.Path.{_≡_, refl, sym, ap, _∙_}
-use mathlib.Core.Bool.{Bool, true, false, not, cond, _||_}
+use mathlib.Core.Path.{_≡_, refl, sym, _∙_}
+use mathlib.Core.Bool.{Bool, true, false, not}
 use mathlib.Core.List.{List}
-use lib.ListN.{length, take}
-use lib.Dec.{eqb, leb}
-use borrow.Author.Tests.{eq-eqb, leb-true, not-false}
+use lib.ListN.{length}
+use lib.Dec.{eqb, ltb}
+use borrow.Author.Tests.{eqb-true, eqb-false, lt-ltb, le-ltb, ltb-true, ltb-false}
 use Rattle.chart.specs.declared.Chart.{Chart}
-use Rattle.rules.specs.Answer.{AnswerBy, NumberAt, refused, given}
-use Rattle.rules.specs.Records.{levelsOf, Quotes}
-use Rattle.rules.specs.Refusals.{overfull, badChart, unequal}
+use Rattle.rules.specs.Answer.{NumberAt, refused, given, isRefused}
+use Rattle.rules.specs.Records.{levelsOf}
+use Rattle.rules.specs.Refusals.{badChart}
 use Rattle.rules.specs.Text.{refusedLine}
-use Rattle.rules.specs.File.{Content, readFile, readCall, marksOf, printed, marksOutput}
-use Rattle.laws.proofs.Tests.{or-l, or-r}
+use Rattle.rules.specs.File.{Content, readFile}
+use Rattle.rules.specs.BarsFile.{readBars}
+use Rattle.rules.specs.Program.{printedBars, printed, chartRead, marksOutput}
 use Rattle.laws.proofs.FileSteps.{refused-given}
 use Rattle.laws.proofs.FileGood.{read-sound, chart-sound}
 use Rattle.chart_read.specs.Loaded.{loaded}
-use Rattle.chart_read.proofs.ReadCall.{file-above}
+use Rattle.chart_read.proofs.ReadCall.{file-above, Given, answer-given, answer-refused}
 
--- slices of one length are not refused with 8
-pub lent-read : (q : Quotes) (bytes : List ℕ) → length (q .highs) ≡ 2048 → length (q .lows) ≡ 2048 → readCall q bytes ≡ readFile 2048 bytes
-unfolding readCall unequal
-lent-read q bytes h l = rw (readCall, eq-eqb (length (q .highs)) (length (q .lows)) (h ∙ sym l), h)
+-- ---- by the length of the file
 
--- the bars read are the first places of the slices
-abbrev pub firsts : ℕ → Quotes → Quotes
-firsts n q = record { highs = take n (q .highs); lows = take n (q .lows) }
+module _ (file : List ℕ) where
+  pub long-refused : 65536 < length file → chartRead file ≡ refused (record { number = 3; place = 65536 })
+  unfolding chartRead
+  long-refused h = rw (chartRead, lt-ltb 65536 (length file) h)
 
-module _ (bytes : List ℕ) (place : ℕ) (c : Chart) (n : ℕ) (q : Quotes) where
-  -- a refused file has its line alone
-  pub file-refused : (k : ℕ) → (k ≡ 0 → ⊥) → loaded k place c n q ≡ readFile 2048 bytes → marksOutput bytes ≡ refusedLine k place
-  unfolding marksOutput printed loaded
-  file-refused zero h e = absurd (h refl)
-  file-refused (suc k) h e = rw (← e)
+  pub short-read : length file ≤ 65536 → chartRead file ≡ readFile file
+  unfolding chartRead
+  short-read h = rw (chartRead, le-ltb 65536 (length file) h)
 
-  -- what a file that is accepted gives
-  pub record Given : Type 0 where
-    pub is : readFile 2048 bytes ≡ given (record { levels = levelsOf c; bars = firsts n q })
-    pub fits : overfull c ≡ false
-    pub few : n ≤ length (q .highs)
-
-  accepted : loaded 0 place c n q ≡ readFile 2048 bytes → Given
+  -- the answer for a file that is too long
+  pub long-loaded :
+      (number place : ℕ) (c : Chart) (passed : ℕ) → 65536 < length file → number ≡ 3 → place ≡ 65536 → passed ≡ 0
+      → loaded number place c passed ≡ chartRead file
   unfolding loaded
-  accepted e = go (not (eqb place 0) || overfull c || not (leb n (length (q .highs)))) refl (readFile 2048 bytes) refl e
+  long-loaded number place c passed h n p z = rw (n, p, z) (sym (long-refused h))
+
+  -- no chart file is refused with 0
+  above : (k : NumberAt) → chartRead file ≡ refused k → 0 < k .number
+  above k e = go (ltb 65536 (length file)) refl
     where
-      go :
-          (t : Bool) → (not (eqb place 0) || overfull c || not (leb n (length (q .highs)))) ≡ t → (a : AnswerBy NumberAt Content) → readFile 2048 bytes ≡ a
-          → cond t (refused (record { number = 0; place = 0 })) (given (record { levels = levelsOf c; bars = firsts n q })) ≡ a → Given
-      go true o (refused k) g h = let z : k .number ≡ 0 = cc in absurd (omega (arith, file-above 2048 bytes k g))
-      go true o (given d) g h = absurd (refused-given h)
-      go false o a g h =
-          record {
-            is = g ∙ sym h;
-            fits = or-r (not (eqb place 0)) (overfull c) (or-l (not (eqb place 0) || overfull c) (not (leb n (length (q .highs)))) o);
-            few = leb-true n (length (q .highs)) (not-false _ (or-r (not (eqb place 0) || overfull c) (not (leb n (length (q .highs)))) o));
-          }
+      go : (t : Bool) → ltb 65536 (length file) ≡ t → 0 < k .number
+      go true f =
+          let same : refused (record { number = 3; place = 65536 }) ≡ refused k = sym (long-refused (ltb-true 65536 (length file) f)) ∙ e in
+          let z : k .number ≡ 3 = cc in
+          omega arith
+      go false f = file-above file k (sym (short-read (ltb-false 65536 (length file) f)) ∙ e)
 
-  module _ (k : ℕ) (z : k ≡ 0) (e : loaded k place c n q ≡ readFile 2048 bytes) where
-    pub file-given : Given
-    file-given = accepted (ap (λ (j : ℕ). loaded j place c n q) (sym z) ∙ e)
+  -- what is accepted is short, and is what reading gives
+  read : (c : Content) → chartRead file ≡ given c → readFile file ≡ given c
+  read c e = go (ltb 65536 (length file)) refl
+    where
+      go : (t : Bool) → ltb 65536 (length file) ≡ t → readFile file ≡ given c
+      go true f = absurd (refused-given (sym (long-refused (ltb-true 65536 (length file) f)) ∙ e))
+      go false f = sym (short-read (ltb-false 65536 (length file) f)) ∙ e
 
-    -- its chart is not refused with 21
-    pub chart-good : badChart c ≡ false
-    chart-good = let g = file-given in chart-sound 2048 c (firsts n q) (g .fits) (read-sound 2048 bytes _ (g .is))
+  -- ---- by the reader's answer
 
-    pub marks-given : marksOutput bytes ≡ marksOf (record { levels = levelsOf c; bars = firsts n q })
+  module _ (place : ℕ) (c : Chart) (passed : ℕ) (k : ℕ) (e : loaded k place c passed ≡ chartRead file) where
+    file-refused : (k ≡ 0 → ⊥) → chartRead file ≡ refused (record { number = k; place = place })
+    file-refused h = answer-refused (chartRead file) above place c passed k h e .is
+
+    file-given : k ≡ 0 → Given (chartRead file) above place c passed
+    file-given z = answer-given (chartRead file) above place c passed k z e
+
+    -- whether it is refused
+    pub refused-is : not (eqb k 0) ≡ isRefused (chartRead file)
+    unfolding isRefused
+    refused-is = go (eqb k 0) refl
+      where
+        go : (t : Bool) → eqb k 0 ≡ t → not t ≡ isRefused (chartRead file)
+        go true f = rw (file-given (eqb-true k 0 f) .is)
+        go false f = rw (file-refused (eqb-false k 0 f))
+
+    -- a refused file has its line alone
+    pub chart-refused : (bars : List ℕ) → (k ≡ 0 → ⊥) → marksOutput file bars ≡ refusedLine k place
     unfolding marksOutput printed
-    marks-given = rw (file-given .is)
+    chart-refused bars h = rw (file-refused h)
+
+    -- the chart of one that is accepted is not refused with 21
+    pub chart-good : k ≡ 0 → badChart c ≡ false
+    chart-good z = let g = file-given z in chart-sound c passed (g .fits) (read-sound file _ (read _ (g .is)))
+
+    pub chart-given : (bars : List ℕ) → k ≡ 0 → marksOutput file bars ≡ printedBars (levelsOf c) (readBars 2048 bars)
+    unfolding marksOutput printed
+    chart-given bars z = rw (file-given z .is)

@@ -79,6 +79,13 @@ pub fn shown(count: u16, size: usize) -> usize
     filled(count as usize, size)
 }
 
+// A word and a number, on a line.
+pub fn print_line(word: &[u8], n: u64) {
+    io::write_all(1, word);
+    io::print_decimal(1, n);
+    io::write_all(1, b"\n");
+}
+
 // The range of a big, with a space behind it.
 fn print_range(range: Range) {
     match range {

@@ -1,16 +1,9 @@
-// Prints every result of the chart file on standard input, or `refused N at P` alone.
-ghost use Prim.Native.Nat.{_≤_};
-ghost use lib.ListN.{length};
-
-// As many bytes as decide every file: one that is accepted with 2,048 bars is shorter, and a record that is refused ends sooner.
-fn room() -> [u8; 65536]
-    ensures { λ r. ⌜ 65536 ≤ length r ⌝ }
-{
-    [0; 65536]
-}
-
+// Prints every result of the chart in `chart.dat` over the bars in `bars.dat`, or `refused N at P` alone; two arguments name other files. As many
+// bytes are read as decide what is printed: one more of the chart file than it may have, and more of the bars file than 2,048 bars take.
 fn main() {
-    let mut buffer = room();
-    let n = io::read_full(0, &mut buffer);
-    sections::print_report(&buffer[..n]);
+    let mut chart = files::chart_room();
+    let n = files::read_argument(1, b"chart.dat", &mut chart);
+    let mut bars = io::large_buffer();
+    let m = files::read_argument(2, b"bars.dat", &mut bars);
+    sections::print_report(&chart[..n], &bars[..m]);
 }

@@ -10,7 +10,9 @@ use Rattle.rules.specs.Zones.{overlapZones, membersOf}
 use Rattle.rules.specs.Marks.{thirdMarks, nMarks}
 use Rattle.rules.specs.Classes.{bigClasses}
 use Rattle.rules.specs.Labels.{labels, colName}
-use Rattle.rules.specs.File.{written, marksOutput}
+use Rattle.rules.specs.File.{written}
+use Rattle.rules.specs.BarsFile.{barsWritten}
+use Rattle.rules.specs.Program.{marksOutput}
 use Rattle.rules.specs.Text.{ascii}
 use Rattle.rules.specs.Refusals.{thirdRefusal, nRefusal}
 use Rattle.rules.proofs.Computing.{everything}
@@ -53,7 +55,7 @@ pub record Facts : Type 0 where
   pub p1-label : labels K ≡ ascii "A" ∷ []
   pub p2 : thirdMarks K (barsK 26) ≡ zoneThird true 29 26 20 ∷ []
   pub p2-accepted : thirdRefusal K (barsK 26) ≡ 0
-  pub p3 : marksOutput (written K (barsK 26)) ≡ ascii "side order bar price\nbuy 0 29 403A000000000000\nbuy 1 38 4033000000000000\n"
+  pub p3 : marksOutput (written K) (barsWritten (barsK 26)) ≡ ascii "side order bar price\nbuy 0 29 403A000000000000\nbuy 1 38 4033000000000000\n"
   pub p3-accepted : nRefusal K (barsK 26) ≡ 0
   pub p4 : thirdMarks K (barsK 20) ≡ []
   pub p4-n : nMarks K (barsK 20) ≡ []

@@ -14,6 +14,8 @@ use Rattle.rules.specs.Classes as classes
 use Rattle.rules.specs.FirstMarks as firstMarks
 use Rattle.rules.specs.Labels as labels
 use Rattle.rules.specs.File as file
+use Rattle.rules.specs.BarsFile as barsFile
+use Rattle.rules.specs.Program as program
 use Rattle.rules.specs.Text as text
 use Rattle.rules.specs.Refusals as refusals
 use Rattle.rules.specs.Calls as calls
@@ -21,7 +23,7 @@ use Rattle.rules.specs.Calls as calls
 -- `unfolding everything` unfolds what the line below names; its value says nothing
 unfoldable pub everything : ℕ
 unfolding records.levelsOf
-    answer.answered answer.rowsAnswer answer.rangeAnswer answer.endPointAnswer
+    answer.isRefused answer.answered answer.rowsAnswer answer.countAnswer answer.rangeAnswer answer.endPointAnswer
     ranges.firstStroke ranges.lastStroke ranges.spanned ranges.rangeOf ranges.endPoint
     zones.opposing zones.begin zones.joins zones.join zones.cut zones.runs zones.within zones.opposingOf zones.zonesOf zones.zonesFrom
     zones.membersIn zones.overlapZones zones.membersOf
@@ -40,8 +42,11 @@ unfolding records.levelsOf
     labels.touches labels.lone labels.nameWithin labels.colName labels.nameOf labels.labelsFrom labels.labels
     file.markOf file.width file.isMark file.kindOf file.kind file.number file.price file.strokeIn file.tripleIn file.recordIn
     file.strokeBytes file.tripleBytes file.fieldBytes file.recordBytes file.nothing file.append file.full file.fieldRefusal
-    file.readRecord file.readFrom file.readFile file.readCall file.slicesAfter file.barRecords file.recordsOf file.written
-    file.writeRefusal file.writeCall file.bufferAfter file.marksOf file.printed file.marksOutput
+    file.readRecord file.readFrom file.readFile file.recordsOf file.written file.writeRefusal file.writeCall file.bufferAfter
+    barsFile.barMark barsFile.barIn barsFile.barBytes barsFile.quotesOf barsFile.misnumbered barsFile.barRefusal barsFile.readBar
+    barsFile.readBarsFrom barsFile.readBars barsFile.readBarsCall barsFile.barCount barsFile.placed barsFile.barsAfter barsFile.barsFrom barsFile.barsOf
+    barsFile.barsWritten barsFile.writeBarsRefusal barsFile.writeBarsCall barsFile.barsBufferAfter
+    program.marksOf program.printedBars program.printed program.chartRead program.marksOutput
     text.ascii text.decimalWithin text.decimal text.hexDigit text.hex text.markLine text.marksText text.refusedLine
     refusals.refuse refusals.badPrices refusals.badStroke refusals.unjoined refusals.badTriple refusals.overfull refusals.wrongStroke
     refusals.badLevels refusals.badChart refusals.brokenStrokes refusals.brokenTriples refusals.brokenLevels refusals.samePrice

@@ -1,6 +1,6 @@
 -- The answer of a call. Assumes nothing.
 use Prim.Native.Nat.{ℕ, zero, suc}
-use mathlib.Core.Bool.{cond}
+use mathlib.Core.Bool.{Bool, true, false, cond}
 use mathlib.Core.List.{List}
 use lib.ListN.{length, take}
 use lib.Dec.{eqb, leb}
@@ -13,6 +13,10 @@ use Rattle.chart.specs.declared.EndPoint.the-variants.{At, Nowhere}
 pub data AnswerBy (R A : Type 0) : Type 0 where
   refused : R → AnswerBy R A
   given : A → AnswerBy R A
+
+unfoldable pub isRefused : {R A : Type 0} → AnswerBy R A → Bool
+isRefused (refused k) = true
+isRefused (given a) = false
 
 -- a refusal gives its number alone
 abbrev pub Answer : Type 0 → Type 0
@@ -33,6 +37,12 @@ answered (suc n) a = refused (suc n)
 unfoldable pub rowsAnswer : {A : Type 0} → ℕ → ℕ → List A → Answer (List A)
 rowsAnswer zero count rows = cond (leb count (length rows)) (given (take count rows)) (refused 0)
 rowsAnswer (suc n) count rows = cond (eqb count 0) (refused (suc n)) (refused 0)
+
+-- That of a struct with a number, a place and a count: "reading adds P". The count where the number is 0, beside place 0; else the number and the
+-- place, beside a count of 0. Another place there, or a count beside a refusal, stands for no answer
+unfoldable pub countAnswer : ℕ → ℕ → ℕ → AnswerBy NumberAt ℕ
+countAnswer zero place count = cond (eqb place 0) (given count) (refused (record { number = 0; place = 0 }))
+countAnswer (suc n) place count = cond (eqb count 0) (refused (record { number = suc n; place = place })) (refused (record { number = 0; place = 0 }))
 
 -- Those of a struct with a number and a range, and with a number and an end point: what stands there where the number is 0, and else the
 -- number, beside Missing or Nowhere. A range or an end point beside a refusal stands for no answer

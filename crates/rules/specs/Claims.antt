@@ -131,7 +131,8 @@ pub record Apart (ms : List NMark) : Type 0 where
 
 -- ---- files
 
--- 02, request 7: "Charts equal in their four levels, with equal bars, then give equal files, and the reverse"
-pub record SameFile (c : Levels) (q : Quotes) (d : Levels) (p : Quotes) : Type 0 where
-  pub forth : c ≡ d → q ≡ p → written c q ≡ written d p
-  pub back : written c q ≡ written d p → (c ≡ d) × (q ≡ p)
+-- 02, request 7: "Charts equal in their four levels, with equal bars, then give equal files, and the reverse"; request 14: "File comparison from
+-- request 7 now concerns charts alone"
+pub record SameFile (c d : Levels) : Type 0 where
+  pub forth : c ≡ d → written c ≡ written d
+  pub back : written c ≡ written d → c ≡ d

@@ -1,6 +1,6 @@
--- Chart file: its records, reading, writing, and what the program `marks` prints. Assumes nothing.
+-- Chart file: its records, reading and writing. Assumes nothing.
 use Prim.Native.Nat.{ℕ, zero, suc}
-use mathlib.Core.Bool.{Bool, true, false, not, _&&_, _||_}
+use mathlib.Core.Bool.{Bool, false, _&&_}
 use mathlib.Core.List.{List, [], _∷_, _++_, map}
 use mathlib.Core.Option.{Option, none, some}
 use lib.ListN.{length, getD, take, drop}
@@ -9,15 +9,13 @@ use lib.Ieee.{Float, binary64, ofBits}
 use Rattle.chart.specs.declared.Stroke.{Stroke}
 use Rattle.chart.specs.declared.Triple.{Triple}
 use Rattle.chart.specs.declared.Chart.{Chart}
-use Rattle.price.specs.Price.{isPrice}
 use Rattle.price.specs.Bytes.{bytesOf, ofBytes, priceBytes}
 use Rattle.rules.specs.Lists.{find, each}
 use Rattle.rules.specs.Answer.{AnswerBy, Answer, refused, given, NumberAt, answered}
-use Rattle.rules.specs.Records.{Levels, levelsOf, Quotes}
+use Rattle.rules.specs.Records.{Levels, levelsOf}
 use Rattle.rules.specs.Machine.{withStrokes, withSegments, withBigs, withSuperiors}
-use Rattle.rules.specs.Marks.{nMarks}
-use Rattle.rules.specs.Text.{ascii, marksText, refusedLine}
-use Rattle.rules.specs.Refusals.{refuse, aboveOne, badPrices, badChart, unequal, badQuotes, nRefusal}
+use Rattle.rules.specs.Text.{ascii}
+use Rattle.rules.specs.Refusals.{refuse, aboveOne, badPrices, badChart}
 
 -- ---- the five kinds of record
 
@@ -51,20 +49,20 @@ isMark a b k = eqb a (getD (markOf k) 0 0) && eqb b (getD (markOf k) 1 0)
 unfoldable pub kindOf : ℕ → ℕ → Option Kind
 kindOf a b = find (isMark a b) (ST ∷ SG ∷ BG ∷ SU ∷ BR ∷ [])
 
--- a bar has a high, then a low
+-- 02, request 14: a reader meeting BR "in an old file passes over it, its prices unexamined": a bar is the bytes behind its mark, as they stand
 pub data Record : Type 0 where
   stroke : Stroke → Record
   segment : Triple → Record
   big : Triple → Record
   superior : Triple → Record
-  bar : Float → Float → Record
+  bar : List ℕ → Record
 
 unfoldable pub kind : Record → Kind
 kind (stroke s) = ST
 kind (segment t) = SG
 kind (big t) = BG
 kind (superior t) = SU
-kind (bar h l) = BR
+kind (bar bytes) = BR
 
 -- ---- little-endian fields in record order: read
 
@@ -93,7 +91,7 @@ recordIn ST bytes = stroke (strokeIn bytes)
 recordIn SG bytes = segment (tripleIn bytes)
 recordIn BG bytes = big (tripleIn bytes)
 recordIn SU bytes = superior (tripleIn bytes)
-recordIn BR bytes = bar (price 0 bytes) (price 8 bytes)
+recordIn BR bytes = bar (take (width BR) bytes)
 
 -- ---- and written
 
@@ -110,42 +108,37 @@ fieldBytes (stroke s) = strokeBytes s
 fieldBytes (segment t) = tripleBytes t
 fieldBytes (big t) = tripleBytes t
 fieldBytes (superior t) = tripleBytes t
-fieldBytes (bar h l) = priceBytes h ++ priceBytes l
+fieldBytes (bar bytes) = bytes
 
 unfoldable pub recordBytes : Record → List ℕ
 recordBytes r = markOf (kind r) ++ fieldBytes r
 
--- ---- what a file holds: the levels, and the bars' highs and lows
+-- ---- what a file holds: the levels; and how many BR records were passed over
 
 pub record Content : Type 0 where
   pub levels : Levels
-  pub bars : Quotes
+  pub passed : ℕ
 
 unfoldable pub nothing : Content
-nothing =
-    record {
-      levels = record { strokes = []; segments = []; bigs = []; superiors = [] };
-      bars = record { highs = []; lows = [] };
-    }
+nothing = record { levels = record { strokes = []; segments = []; bigs = []; superiors = [] }; passed = 0 }
 
 -- within a kind, file order is index order
 unfoldable pub append : Content → Record → Content
-append c (stroke s) = record { levels = withStrokes (c .levels) (c .levels .strokes ++ (s ∷ [])); bars = c .bars }
-append c (segment t) = record { levels = withSegments (c .levels) (c .levels .segments ++ (t ∷ [])); bars = c .bars }
-append c (big t) = record { levels = withBigs (c .levels) (c .levels .bigs ++ (t ∷ [])); bars = c .bars }
-append c (superior t) = record { levels = withSuperiors (c .levels) (c .levels .superiors ++ (t ∷ [])); bars = c .bars }
-append c (bar h l) =
-    record { levels = c .levels; bars = record { highs = c .bars .highs ++ (h ∷ []); lows = c .bars .lows ++ (l ∷ []) } }
+append c (stroke s) = record { levels = withStrokes (c .levels) (c .levels .strokes ++ (s ∷ [])); passed = c .passed }
+append c (segment t) = record { levels = withSegments (c .levels) (c .levels .segments ++ (t ∷ [])); passed = c .passed }
+append c (big t) = record { levels = withBigs (c .levels) (c .levels .bigs ++ (t ∷ [])); passed = c .passed }
+append c (superior t) = record { levels = withSuperiors (c .levels) (c .levels .superiors ++ (t ∷ [])); passed = c .passed }
+append c (bar bytes) = record { levels = c .levels; passed = suc (c .passed) }
 
 -- ---- reading. Per record: 13 cut short; 12 unknown mark; 3 no place left; 2; 1
 
--- no place is left for one more of a kind, with n places for bars
-unfoldable pub full : ℕ → Content → Kind → Bool
-full n c ST = leb 512 (length (c .levels .strokes))
-full n c SG = leb 256 (length (c .levels .segments))
-full n c BG = leb 256 (length (c .levels .bigs))
-full n c SU = leb 256 (length (c .levels .superiors))
-full n c BR = leb n (length (c .bars .highs))
+-- no place is left for one more of a kind; a bar takes none
+unfoldable pub full : Levels → Kind → Bool
+full c ST = leb 512 (length (c .strokes))
+full c SG = leb 256 (length (c .segments))
+full c BG = leb 256 (length (c .bigs))
+full c SU = leb 256 (length (c .superiors))
+full c BR = false
 
 -- 2 a direction above 1; 1 a price that isn't one
 unfoldable pub fieldRefusal : Record → ℕ
@@ -153,7 +146,7 @@ fieldRefusal (stroke s) = refuse (aboveOne (s .direction)) 2 (refuse (badPrices 
 fieldRefusal (segment t) = refuse (aboveOne (t .direction)) 2 0
 fieldRefusal (big t) = refuse (aboveOne (t .direction)) 2 0
 fieldRefusal (superior t) = refuse (aboveOne (t .direction)) 2 0
-fieldRefusal (bar h l) = refuse (not (isPrice h) || not (isPrice l)) 1 0
+fieldRefusal (bar bytes) = 0
 
 -- The record at the head of some bytes, which are not none. A lone byte is cut short, and so is a known mark with too few bytes behind it,
 -- whatever else is wrong; two bytes that are no mark are unknown, whatever follows
@@ -167,81 +160,43 @@ readRecord fullOf (a ∷ b ∷ bytes) =
           answered (refuse (ltb (length bytes) (width k)) 13 (refuse (fullOf k) 3 (fieldRefusal (recordIn k bytes)))) (recordIn k bytes)
     ]
 
--- The bytes from place `at` on, with n places for bars, c being what the records before hold. `skip` counts the bytes that still belong to
--- the record before. A refusal has the place of its record's mark
-unfoldable pub readFrom : ℕ → ℕ → Content → ℕ → List ℕ → AnswerBy NumberAt Content
-readFrom n at c skip [] = given c
-readFrom n at c (suc skip) (b ∷ bytes) = readFrom n (suc at) c skip bytes
-readFrom n at c zero (b ∷ bytes) =
-    elim (readRecord (full n c) (b ∷ bytes)) [
+-- The bytes from place `at` on, c being what the records before hold. `skip` counts the bytes that still belong to the record before. A refusal
+-- has the place of its record's mark
+unfoldable pub readFrom : ℕ → Content → ℕ → List ℕ → AnswerBy NumberAt Content
+readFrom at c skip [] = given c
+readFrom at c (suc skip) (b ∷ bytes) = readFrom (suc at) c skip bytes
+readFrom at c zero (b ∷ bytes) =
+    elim (readRecord (full (c .levels)) (b ∷ bytes)) [
       | refused k ↦ refused (record { number = k; place = at })
-      | given r ↦ readFrom n (suc at) (append c r) (suc (width (kind r))) bytes
+      | given r ↦ readFrom (suc at) (append c r) (suc (width (kind r))) bytes
     ]
 
--- a file, with n places for bars
-unfoldable pub readFile : ℕ → List ℕ → AnswerBy NumberAt Content
-readFile n bytes = readFrom n 0 nothing 0 bytes
-
--- Read: 8 lent slices unequal, at 0; then the records. It gives the levels, and as many bars as there are highs
-unfoldable pub readCall : Quotes → List ℕ → AnswerBy NumberAt Content
-readCall q bytes =
-    elim (unequal q) [ true ↦ refused (record { number = 8; place = 0 }) | false ↦ readFile (length (q .highs)) bytes ]
-
--- a lent slice or buffer whose first places are filled: places behind keep their contents
-abbrev pub fill : {A : Type 0} → List A → List A → List A
-fill new old = new ++ drop (length new) old
-
--- the lent slices afterwards; a refused reading leaves them as they were
-unfoldable pub slicesAfter : AnswerBy NumberAt Content → Quotes → Quotes
-slicesAfter (refused k) q = q
-slicesAfter (given c) q = record { highs = fill (c .bars .highs) (q .highs); lows = fill (c .bars .lows) (q .lows) }
+-- Read: a file, from its first byte. It gives the levels, and "reports how many" BR records "there were"
+unfoldable pub readFile : List ℕ → AnswerBy NumberAt Content
+readFile bytes = readFrom 0 nothing 0 bytes
 
 -- ---- writing
 
-unfoldable pub barRecords : List Float → List Float → List Record
-barRecords [] ls = []
-barRecords (h ∷ hs) [] = []
-barRecords (h ∷ hs) (l ∷ ls) = bar h l ∷ barRecords hs ls
+-- a lent buffer whose first places are filled: places behind keep their contents
+abbrev pub fill : {A : Type 0} → List A → List A → List A
+fill new old = new ++ drop (length new) old
 
--- 02, request 7: "From now on a writer puts BR first, then strokes (ST or SR), SG, BG, SU." The order is the format's and no choice; of strokes
--- there are ST alone
-unfoldable pub recordsOf : Levels → Quotes → List Record
-recordsOf c q =
-    barRecords (q .highs) (q .lows) ++ map stroke (c .strokes) ++ map segment (c .segments) ++ map big (c .bigs)
-    ++ map superior (c .superiors)
+-- 02, request 7: "From now on a writer puts BR first, then strokes (ST or SR), SG, BG, SU." The order is the format's and no choice. Of strokes
+-- there are ST alone, and by request 14 "BR records are no longer written"
+unfoldable pub recordsOf : Levels → List Record
+recordsOf c = map stroke (c .strokes) ++ map segment (c .segments) ++ map big (c .bigs) ++ map superior (c .superiors)
 
-unfoldable pub written : Levels → Quotes → List ℕ
-written c q = each recordBytes (recordsOf c q)
+unfoldable pub written : Levels → List ℕ
+written c = each recordBytes (recordsOf c)
 
--- Write: 21; 8 slices unequal; 1 in either slice; 3 buffer too short
-unfoldable pub writeRefusal : Chart → Quotes → List ℕ → ℕ
-writeRefusal c q buffer =
-    refuse (badChart c) 21
-    (refuse (unequal q) 8 (refuse (badQuotes q) 1 (refuse (ltb (length buffer) (length (written (levelsOf c) q))) 3 0)))
+-- Write: 21; 3 buffer too short
+unfoldable pub writeRefusal : Chart → List ℕ → ℕ
+writeRefusal c buffer = refuse (badChart c) 21 (refuse (ltb (length buffer) (length (written (levelsOf c)))) 3 0)
 
 -- it gives the byte count
-unfoldable pub writeCall : Chart → Quotes → List ℕ → Answer ℕ
-writeCall c q buffer = answered (writeRefusal c q buffer) (length (written (levelsOf c) q))
+unfoldable pub writeCall : Chart → List ℕ → Answer ℕ
+writeCall c buffer = answered (writeRefusal c buffer) (length (written (levelsOf c)))
 
 -- the buffer afterwards; a refused writing leaves it as it was
-unfoldable pub bufferAfter : Chart → Quotes → List ℕ → List ℕ
-bufferAfter c q buffer =
-    elim (writeRefusal c q buffer) [ zero ↦ fill (written (levelsOf c) q) buffer | suc k ↦ buffer ]
-
--- ---- the program `marks`
-
--- What it prints of a file that is read. The mark call has no 21 here: reading gives no chart that it refuses. P is 0 if it refuses
-unfoldable pub marksOf : Content → List ℕ
-marksOf c =
-    elim (answered (nRefusal (c .levels) (c .bars)) (nMarks (c .levels) (c .bars))) [
-      | refused k ↦ refusedLine k 0
-      | given ms ↦ marksText ms
-    ]
-
-unfoldable pub printed : AnswerBy NumberAt Content → List ℕ
-printed (refused k) = refusedLine (k .number) (k .place)
-printed (given c) = marksOf c
-
--- what it prints of its input: a chart file with at most 2,048 bars
-unfoldable pub marksOutput : List ℕ → List ℕ
-marksOutput bytes = printed (readFile 2048 bytes)
+unfoldable pub bufferAfter : Chart → List ℕ → List ℕ
+bufferAfter c buffer = elim (writeRefusal c buffer) [ zero ↦ fill (written (levelsOf c)) buffer | suc k ↦ buffer ]

@@ -1,5 +1,5 @@
--- The definitions of document 01, a file a section, in its order. README.md lists, under "What a reader has to believe", these files and the few
--- of other crates that contracts rest on; all else is proved against them.
+-- The definitions of document 01, a file a section, in its order, with what requests of 02 add. README.md lists, under "What a reader has to believe",
+-- these files and the few of other crates that contracts rest on; all else is proved against them.
 pub mod Lists
 pub mod Answer
 pub mod Records
@@ -12,7 +12,9 @@ pub mod Classes
 pub mod FirstMarks
 pub mod Labels
 pub mod File
+pub mod BarsFile
 pub mod Text
 pub mod Refusals
 pub mod Calls
+pub mod Program
 pub mod Claims

@@ -170,7 +170,7 @@ zonesRefusal c = refuse (ltb 256 (length (overlapZones c))) 11 0
 abbrev pub labelsRefusal : Levels → ℕ
 labelsRefusal = zonesRefusal
 
--- 8 slices of unequal length; for marks also above 65,536
+-- 8 slices of unequal length, or above 65,536
 unfoldable pub unequal : Quotes → Bool
 unequal q = not (eqb (length (q .highs)) (length (q .lows)))
 

@@ -1,4 +1,4 @@
-// What `report` prints of a chart file: a section for each call that is built. Of printing only safety is proved; each row comes from a
+// What `report` prints of a chart file and a bars file: a section for each call that is built. Of printing only safety is proved; each row comes from a
 // proved call.
 use chart::Chart;
 use classes::ClassRows;
@@ -36,7 +36,7 @@ fn print_zones(chart: Chart) {
     printing::print_zones(b"", rows, found.count);
 }
 
-// Third marks, over the bars of the file.
+// Third marks, over the bars.
 fn print_thirds(chart: Chart, highs: &[f64], lows: &[f64]) {
     let found = third::bigseg_third_marks_all_zhongshu(chart, highs, lows);
     printing::print_head(b"THIRD", found.number, found.count);
@@ -44,7 +44,7 @@ fn print_thirds(chart: Chart, highs: &[f64], lows: &[f64]) {
     printing::print_thirds(b"", rows, found.count);
 }
 
-// 3+N marks, over the bars of the file.
+// 3+N marks, over the bars.
 fn print_threens(chart: Chart, highs: &[f64], lows: &[f64]) {
     let found = three_n::bigseg_3n_marks_all_zhongshu(chart, highs, lows);
     printing::print_head(b"THREEN", found.number, found.count);
@@ -122,16 +122,27 @@ fn print_sections(chart: Chart, highs: &[f64], lows: &[f64]) {
     print_first_sells(chart, 1);
 }
 
-// All sections, or `refused N at P` alone. A file has at most 2,048 bars.
-pub fn print_report(file: &[u8]) {
+// The sections of a chart, of whose file so many BR records were passed over, and a bars file of at most 2,048 bars; or `refused N at P` alone.
+fn print_with_bars(chart: Chart, passed: usize, bars: &[u8]) {
     let mut highs = [0.0; 2048];
     let mut lows = [0.0; 2048];
-    let read = chart_read::read_chart(file, &mut highs, &mut lows);
+    let read = bars_read::read_bars(bars, &mut highs, &mut lows);
     if read.number != 0 {
         printing::print_refused(read.number, read.place);
         return;
     }
     let n = printing::filled(read.bars, 2048);
-    let chart = read.chart;
+    printing::print_line(b"PASSED ", passed as u64);
     print_sections(chart, &highs[..n], &lows[..n]);
+}
+
+// All sections, or `refused N at P` alone, with the limits of the program `marks`.
+pub fn print_report(chart: &[u8], bars: &[u8]) {
+    let read = marks_file::load_chart(chart);
+    if read.number != 0 {
+        printing::print_refused(read.number, read.place);
+        return;
+    }
+    let loaded = read.chart;
+    print_with_bars(loaded, read.passed, bars);
 }

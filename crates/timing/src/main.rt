@@ -1,4 +1,4 @@
-// Makes one call many times on the chart file on standard input, for the script oracle/timing to time, and prints a sum of the answers.
+// Makes one call many times on the chart in `chart.dat` over the bars in `bars.dat`, for the script oracle/timing to time, and prints a sum of the answers.
 // Arguments: the call (zones, third or threen) and how many times it is made. Of this program only safety is proved.
 use chart::Chart;
 ghost use Prim.Native.Nat.{_<_};
@@ -86,25 +86,36 @@ fn sum_of(call: Call, start: Chart, highs: &[f64], lows: &[f64], turns: u32) -> 
     sum
 }
 
-// The sum of the turns on a chart file, or `refused N at P` alone.
-fn print_sum(file: &[u8], call: Call, turns: u32) {
+// The sum of the turns on a chart and a bars file, or `refused N at P` alone.
+fn print_with_bars(chart: Chart, bars: &[u8], call: Call, turns: u32) {
     let mut highs = [0.0; 2048];
     let mut lows = [0.0; 2048];
-    let read = chart_read::read_chart(file, &mut highs, &mut lows);
+    let read = bars_read::read_bars(bars, &mut highs, &mut lows);
     if read.number != 0 {
         printing::print_refused(read.number, read.place);
         return;
     }
     let n = printing::filled(read.bars, 2048);
-    let chart = read.chart;
     let sum = sum_of(call, chart, &highs[..n], &lows[..n], turns);
     printing::print_head(b"SUM", 0, sum);
 }
 
+fn print_sum(chart: &[u8], bars: &[u8], call: Call, turns: u32) {
+    let read = chart_read::read_chart(chart);
+    if read.number != 0 {
+        printing::print_refused(read.number, read.place);
+        return;
+    }
+    let loaded = read.chart;
+    print_with_bars(loaded, bars, call, turns);
+}
+
 fn main() {
-    let mut buffer = io::large_buffer();
-    let n = io::read_full(0, &mut buffer);
+    let mut chart = files::chart_room();
+    let n = files::read_file(b"chart.dat", &mut chart);
+    let mut bars = io::large_buffer();
+    let m = files::read_file(b"bars.dat", &mut bars);
     let call = call_of(arguments::word(1));
     let turns = arguments::number(arguments::word(2));
-    print_sum(&buffer[..n], call, turns);
+    print_sum(&chart[..n], &bars[..m], call, turns);
 }

@@ -5,7 +5,7 @@ use borrow.Author.Needs.{needs}
 use Rattle.rules.specs.File.{width}
 use Rattle.chart_read.specs.declared.Mark.{Mark}
 use Rattle.chart_read.specs.Heads.{kindBy}
-use Rattle.chart_read.proofs.RecordKinds.{level-width}
+use Rattle.chart_read.proofs.RecordKinds.{level-width, bar-given}
 use Rattle.chart_read.proofs.checked_record.Statement.{statement}
 use Rattle.chart_read.proofs.checked_record.Tie as tie
 
@@ -20,11 +20,6 @@ checked-stroke-requires c κs =
 checked-triple-requires : tie.Need-checked-triple-requires
 checked-triple-requires c κs = omega (arith, level-width _ _ (c .before .m .given .1))
 
-checked-bar-requires : tie.Need-checked-bar-requires
-unfolding width
-checked-bar-requires c κs =
-    omega (arith, ap (λ (k : Mark). width (kindBy k)) (c .enum-told2 .given .1))
-
 returns : tie.Need-returns
 returns c = rw (c .before .enum-told .given .1) (c .checked-stroke .ensures)
 
@@ -32,10 +27,9 @@ returns-2 : tie.Need-returns-2
 returns-2 c = rw (c .before .before .m .given .1) (c .checked-triple .ensures)
 
 returns-3 : tie.Need-returns-3
-returns-3 c = rw (c .before .enum-told2 .given .1) (c .checked-bar .ensures)
+returns-3 c = bar-given _ _ (c .enum-told2 .given .1)
 
 pub checked-record-spec : {M : Type 1} → statement M
 checked-record-spec =
     tie.close
-    (tie.spec enum-told checked-stroke-requires (λ c. search needs) checked-triple-requires (λ c. search needs) checked-bar-requires returns
-    returns-2 returns-3)
+    (tie.spec enum-told checked-stroke-requires (λ c. search needs) checked-triple-requires (λ c. search needs) returns returns-2 returns-3)

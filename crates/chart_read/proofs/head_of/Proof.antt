@@ -50,7 +50,8 @@ returns-5 c =
     let mark = wide .before .before in
     let called = mark .before .before in
     let test = called .before .before .before in
-    head-fields _ _ (test .if1 .left) _ (called .mark-of .ensures) _ (mark .m .given .1) _ (wide .width-of .ensures) _ (room .before .if2 .left)
+    head-fields _ _ (test .if1 .left) _ (called .mark-of .ensures) _ (mark .m .given .1) _ (wide .width-of .ensures) (c .checked-record .result)
+    (room .before .if2 .left)
     (sym (full .is-full .ensures) ∙ room .if3 .left)
     (c .checked-record .ensures)
 

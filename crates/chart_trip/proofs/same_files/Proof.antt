@@ -16,19 +16,19 @@ abbrev accepted : tie.After-write-chart → tie.Else1
 accepted c = c .before .before
 
 abbrev start : tie.Else1 → tie.Start
-start c = c .before .before .before .before .before .before .before .before .before .before
+start c = c .before .before .before .before .before .before
 
 -- neither writing is refused
 first-0 : (c : tie.After-write-chart) → c .write-chart .result .number ≡ 0
 first-0 c =
     let e = sym (accepted c .before .same-refusal .ensures) ∙ accepted c .if1 .left in
-    number-is _ _ _ _ _ (c .write-chart .ensures .0) ∙ both-accepted _ _ e .0
+    number-is _ _ _ _ (c .write-chart .ensures .0) ∙ both-accepted _ _ e .0
 
 second-0 : (c : tie.After-write-chart2) → c .write-chart2 .result .number ≡ 0
 second-0 c =
     let go = accepted (wrote-1 c) in
     let e = sym (go .before .same-refusal .ensures) ∙ go .if1 .left in
-    number-is _ _ _ _ _ (c .write-chart2 .ensures .0) ∙ both-accepted _ _ e .1
+    number-is _ _ _ _ (c .write-chart2 .ensures .0) ∙ both-accepted _ _ e .1
 
 returns : tie.Need-returns
 returns c = refused-files _ _ _ (c .if1 .taken) (c .before .same-refusal .ensures)
@@ -37,7 +37,7 @@ slice-reshare-prefix-same : tie.Need-slice-reshare-prefix-same
 slice-reshare-prefix-same c =
     let done = wrote-1 (c .before .before) in
     let w = done .write-chart .ensures in
-    count-fits _ _ _ _ _ _ (w .0) (w .1 .0) (first-0 done) (search needs)
+    count-fits _ _ _ _ _ (w .0) (w .1 .0) (first-0 done) (search needs)
 
 slice-aggregate-same : tie.Need-slice-aggregate-same
 slice-aggregate-same c = sym (length-take-le _ _ (slice-reshare-prefix-same (c .before)))
@@ -46,7 +46,7 @@ slice-reshare-prefix-same-2 : tie.Need-slice-reshare-prefix-same-2
 slice-reshare-prefix-same-2 c =
     let done = c .before .before .before in
     let w = done .write-chart2 .ensures in
-    count-fits _ _ _ _ _ _ (w .0) (w .1 .0) (second-0 done) (search needs)
+    count-fits _ _ _ _ _ (w .0) (w .1 .0) (second-0 done) (search needs)
 
 slice-aggregate-same-2 : tie.Need-slice-aggregate-same-2
 slice-aggregate-same-2 c = sym (length-take-le _ _ (slice-reshare-prefix-same-2 (c .before)))
@@ -60,9 +60,9 @@ returns-2 c =
     let go = accepted first in
     let good = start go .good in
     written-files _ _ (sym (go .before .same-refusal .ensures) ∙ go .if1 .left) (narrow-levels _ _ (good .0))
-    (narrow-levels _ _ (good .1 .1 .1 .0)) _ _ _ _ _
-    (bytes-written _ _ _ _ _ _ (v .0) (v .1 .0) (first-0 first))
-    (bytes-written _ _ _ _ _ _ (w .0) (w .1 .0) (second-0 second))
+    (narrow-levels _ _ (good .1 .0)) _ _ _ _ _
+    (bytes-written _ _ _ _ _ (v .0) (v .1 .0) (first-0 first))
+    (bytes-written _ _ _ _ _ (w .0) (w .1 .0) (second-0 second))
     (c .same .ensures)
     (v .1 .0) (w .1 .0)
 

@@ -1,27 +1,16 @@
 -- `chart_write::first_of` meets its contract: at each number those before it do not apply. Assumes nothing.
-use Rattle.rules.specs.Refusals.{refuse}
+use Rattle.chart_write.proofs.Call.{first-bad, first-short, first-none}
 use Rattle.chart_write.proofs.first_of.Statement.{statement}
 use Rattle.chart_write.proofs.first_of.Tie as tie
 
 returns : tie.Need-returns
-unfolding refuse
-returns c = rw (c .if1 .taken)
+returns c = first-bad _ _ (c .if1 .taken)
 
 returns-2 : tie.Need-returns-2
-unfolding refuse
-returns-2 c = rw (c .before .if1 .left, c .if2 .taken)
+returns-2 c = first-short _ _ (c .before .if1 .left) (c .if2 .taken)
 
 returns-3 : tie.Need-returns-3
-unfolding refuse
-returns-3 c = rw (c .before .before .if1 .left, c .before .if2 .left, c .if3 .taken)
-
-returns-4 : tie.Need-returns-4
-unfolding refuse
-returns-4 c = rw (c .before .before .before .if1 .left, c .before .before .if2 .left, c .before .if3 .left, c .if4 .taken)
-
-returns-5 : tie.Need-returns-5
-unfolding refuse
-returns-5 c = rw (c .before .before .before .if1 .left, c .before .before .if2 .left, c .before .if3 .left, c .if4 .left)
+returns-3 c = first-none _ _ (c .before .if1 .left) (c .if2 .left)
 
 pub first-of-spec : {M : Type 1} → statement M
-first-of-spec = tie.close (tie.spec returns returns-2 returns-3 returns-4 returns-5)
+first-of-spec = tie.close (tie.spec returns returns-2 returns-3)

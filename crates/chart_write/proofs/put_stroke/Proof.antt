@@ -1,5 +1,5 @@
 -- `chart_write::put_stroke` meets its contract. Assumes nothing.
-use Rattle.chart_write.proofs.Records.{copied}
+use Rattle.laws.proofs.FilePut.{copied}
 use borrow.Author.Needs.{needs}
 use Rattle.chart_write.proofs.put_stroke.Statement.{statement}
 use Rattle.chart_write.proofs.put_stroke.Tie as tie

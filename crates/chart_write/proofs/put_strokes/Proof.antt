@@ -6,7 +6,7 @@ use mathlib.Core.List.{map}
 use lib.ListN.{length, take, drop}
 use Rattle.rules.specs.Lists.{each}
 use Rattle.chart_write.proofs.Levels.{stroke-next, stroke-none, stroke-prices}
-use Rattle.chart_write.proofs.Put.{Writing, begun, room-next, written-next, ended}
+use Rattle.laws.proofs.FilePut.{Writing, begun, room-next, written-next, ended}
 use Rattle.rules.specs.File.{stroke, recordBytes}
 use borrow.Author.Needs.{needs}
 use Rattle.chart_write.proofs.put_strokes.Statement.{statement}

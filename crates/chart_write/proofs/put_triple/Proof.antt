@@ -1,5 +1,5 @@
 -- `chart_write::put_triple` meets its contract. Assumes nothing.
-use Rattle.chart_write.proofs.Records.{copied}
+use Rattle.laws.proofs.FilePut.{copied}
 use borrow.Author.Needs.{needs}
 use Rattle.chart_write.proofs.put_triple.Statement.{statement}
 use Rattle.chart_write.proofs.put_triple.Tie as tie

@@ -5,8 +5,8 @@ use native.Mathlib.Omega.{arith}
 use lib.ListN.{length, take, drop}
 use Rattle.rules.specs.Lists.{each}
 use Rattle.chart_write.proofs.Levels.{triple-next, triple-none}
-use Rattle.chart_write.proofs.Put.{Writing, begun, room-next, written-next, ended}
-use Rattle.chart_write.specs.Put.{marked}
+use Rattle.laws.proofs.FilePut.{Writing, begun, room-next, written-next, ended}
+use Rattle.chart_write.specs.Marked.{marked}
 use borrow.Author.Needs.{needs}
 use Rattle.chart_write.proofs.put_triples.Statement.{statement}
 use Rattle.chart_write.proofs.put_triples.Tie as tie

@@ -10,14 +10,9 @@ sized c = search (needs, length-via, sized-via)
 
 returns : tie.Need-returns
 returns c =
-    let short = c .before in
-    let wrong = short .before in
-    let bad = wrong .before in
+    let bad = c .before in
     let size = bad .before in
-    refusal-by _ _ _ _ _ _ _ _ (sized (size .before .before .before .before)) (c .first-of .ensures) (bad .bad-chart .ensures)
-    (wrong .bad-quotes .ensures) (size .levels-size .ensures) (short .too-short .ensures)
+    refusal-by _ _ _ _ _ (sized (size .before .before)) (bad .bad-chart .ensures) (size .levels-size .ensures) (c .first-of .ensures)
 
 pub refusal-spec : {M : Type 1} → statement M
-refusal-spec =
-    tie.close
-    (tie.spec (λ c κs. search needs) (λ c κs. search needs) (λ c κs. search needs) (λ c κs. search needs) (λ c κs. search needs) returns)
+refusal-spec = tie.close (tie.spec (λ c κs. search needs) (λ c κs. search needs) (λ c κs. search needs) returns)

@@ -1,0 +1,4 @@
+pub mod Heads
+pub mod Scans
+pub mod Fills
+pub mod ReadCall

@@ -1,0 +1,2 @@
+pub mod Trip
+pub mod Facts
