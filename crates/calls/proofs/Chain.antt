@@ -13,7 +13,7 @@ use Rattle.chart.specs.declared.Stroke.{Stroke}
 use Rattle.chart.specs.declared.Triple.{Triple}
 use Rattle.rules.specs.Lists.{isEmpty}
 use Rattle.rules.specs.Records.{Levels}
-use Rattle.rules.specs.Refusals.{refuse, badPrices, badStroke, unjoined, badTriple, held, strokeRefusal, tripleRefusal, lengthenRefusal, withdrawRefusal}
+use Rattle.rules.specs.Refusals.{refuse, wrongBytes, badPrices, badStroke, unjoined, badTriple, held, strokeRefusal, tripleRefusal, lengthenRefusal, withdrawRefusal}
 use Rattle.levels.proofs.Read.{no-stroke, no-triple}
 use Rattle.calls.proofs.Last.{last-read, empty-taken}
 
@@ -27,12 +27,13 @@ refuse-later b n k r e f = rw e f
 
 -- the adds' numbers, told by counts and the record at place k
 pub stroke-number :
-    (n k : ℕ) (xs : List Stroke) (s : Stroke) (price order apart : Bool) → n ≤ length xs → k ≡ n - 1 → price ≡ badPrices s → order ≡ badStroke s
+    (n k : ℕ) (xs : List Stroke) (s : Stroke) (bytes price order apart : Bool) → n ≤ length xs → k ≡ n - 1 → bytes ≡ wrongBytes s
+    → price ≡ badPrices s → order ≡ badStroke s
     → apart ≡ unjoined (cond (eqb n 0) none (some (getD xs k no-stroke))) s
-    → refuse (leb 512 n) 3 (refuse (ltb 1 (s .direction)) 2 (refuse price 1 (refuse order 4 (refuse false 5 (refuse apart 14 0)))))
+    → refuse (leb 512 n) 3 (refuse bytes 2 (refuse price 1 (refuse order 4 (refuse false 5 (refuse apart 14 0)))))
     ≡ strokeRefusal (take n xs) s
 unfolding strokeRefusal refuse
-stroke-number n k xs s price order apart h e p o a = rw (length-take-le n xs h, last-read n k xs no-stroke e h, p, o, a)
+stroke-number n k xs s bytes price order apart h e w p o a = rw (length-take-le n xs h, last-read n k xs no-stroke e h, w, p, o, a)
 
 pub triple-number :
     (n k m : ℕ) (xs : List Triple) (t : Triple) (order : Bool) → n ≤ length xs → k ≡ n - 1

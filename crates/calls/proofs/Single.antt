@@ -1,14 +1,14 @@
 -- Conditions on one record: one way through each test. Assumes nothing.
 use Prim.Native.Nat.{ℕ, _<_, _≤_}
 use mathlib.Core.Path.{_≡_, refl}
-use mathlib.Core.Bool.{Bool, true, false, not, cond}
+use mathlib.Core.Bool.{Bool, true, false, not, cond, _&&_, _||_}
 use mathlib.Core.Option.{Option, none, some}
 use lib.Dec.{eqb, leb, ltb}
 use lib.Ieee.{lt, eq}
 use borrow.Author.Tests.{lt-ltb, le-ltb, le-leb, lt-leb, eq-eqb, ne-eqb}
 use Rattle.chart.specs.declared.Stroke.{Stroke}
 use Rattle.chart.specs.declared.Triple.{Triple}
-use Rattle.rules.specs.Refusals.{badStroke, unjoined, badTriple}
+use Rattle.rules.specs.Refusals.{badStroke, unmet, unjoined, badTriple}
 
 module _ (s : Stroke) where
   pub stroke-bars : s .«end_bar» ≤ s .«start_bar» → true ≡ badStroke s
@@ -25,18 +25,18 @@ module _ (s : Stroke) where
     stroke-down e = rw (lt-leb _ _ h, ne-eqb _ _ e)
 
 module _ (p s : Stroke) where
-  pub join-bars : (s .«start_bar» ≡ p .«end_bar» → ⊥) → true ≡ unjoined (some p) s
+  pub price-met : (not (eqb (s .roll) 1) && not (eq (s .«start_price») (p .«end_price»))) ≡ unmet p s
+  unfolding unmet
+  price-met = go (eqb (s .roll) 1)
+    where
+      go : (b : Bool) → (not b && not (eq (s .«start_price») (p .«end_price»))) ≡ cond b false (not (eq (s .«start_price») (p .«end_price»)))
+      go true = refl
+      go false = refl
+
+  pub join-tests :
+      (u : Bool) → u ≡ unmet p s → (not (eqb (s .«start_bar») (p .«end_bar»)) || u || eqb (s .direction) (p .direction)) ≡ unjoined (some p) s
   unfolding unjoined
-  join-bars h = rw (ne-eqb _ _ h)
-
-  module _ (h : s .«start_bar» ≡ p .«end_bar») where
-    pub join-prices : eq (s .«start_price») (p .«end_price») ≡ false → true ≡ unjoined (some p) s
-    unfolding unjoined
-    join-prices e = rw (eq-eqb _ _ h, e)
-
-    pub join-ways : eq (s .«start_price») (p .«end_price») ≡ true → eqb (s .direction) (p .direction) ≡ unjoined (some p) s
-    unfolding unjoined
-    join-ways e = rw (eq-eqb _ _ h, e)
+  join-tests u e = rw e
 
 pub triple-reversed : (p t : Triple) → t .last < t .first → ltb (t .last) (t .first) ≡ badTriple (some p) t
 unfolding badTriple

@@ -11,7 +11,7 @@ ghost use lib.ListN.{length, take};
 ghost use lib.Dec.{eqb};
 ghost use Rattle.chart.specs.declared.Triple.{Triple};
 ghost use Rattle.rules.specs.Records.{levelsOf};
-ghost use Rattle.rules.specs.Refusals.{refuse, badStroke, unjoined, badTriple, overfull, held, brokenStrokes, brokenTriples, brokenLevels};
+ghost use Rattle.rules.specs.Refusals.{refuse, badStroke, unmet, unjoined, badTriple, overfull, held, brokenStrokes, brokenTriples, brokenLevels};
 ghost use Rattle.rules.specs.Refusals.{strokeRefusal, tripleRefusal, lengthenRefusal, withdrawRefusal, deriveRefusal};
 
 // ---- one record
@@ -29,17 +29,18 @@ fn bad_stroke(s: Stroke) -> bool
     !(s.end_price < s.start_price)
 }
 
+// Whether the start price of a stroke breaks its 14 behind p: it is not the previous end price, and the stroke is not rolled.
+fn unmet(p: Stroke, s: Stroke) -> bool
+    ensures { λ r. ⌜ r ≡ unmet p s ⌝ }
+{
+    (s.roll != 1) & !(s.start_price == p.end_price)
+}
+
 // 14 of a stroke behind p: start bar or start price differs from the previous end, or same direction.
 fn unjoined(p: Stroke, s: Stroke) -> bool
     ensures { λ r. ⌜ r ≡ unjoined (some p) s ⌝ }
 {
-    if s.start_bar != p.end_bar {
-        return true;
-    }
-    if s.start_price == p.end_price {
-        return s.direction == p.direction;
-    }
-    true
+    (s.start_bar != p.end_bar) | unmet(p, s) | (s.direction == p.direction)
 }
 
 // 4 of a segment, big or superior behind p: first > last, or first ≤ the previous record's last.
@@ -196,7 +197,7 @@ pub fn stroke_refusal(chart: Chart, s: Stroke) -> u8
     let p = chart.strokes[k];
     first_of(
         512 <= n,
-        1 < s.direction,
+        levels::wrong_bytes(s),
         price::wrong_prices(s.start_price, s.end_price),
         bad_stroke(s),
         false,

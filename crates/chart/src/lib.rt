@@ -1,9 +1,11 @@
 // The records of a chart, of its zones, classes, labels and marks. Where the reference has a record, a comment gives its name;
 // fields that it has keep theirs.
 
-// Direction: 1 up, 0 down. A price is a finite f64 that is not -0.
+// Direction: 1 up, 0 down. Roll byte: with 1 the start price need not be the end price of the stroke before. (Added; the reference has none.)
+// A price is a finite f64 that is not -0.
 pub struct Stroke {
     pub direction: u8,
+    pub roll: u8,
     pub start_bar: u16,
     pub end_bar: u16,
     pub start_price: f64,
@@ -13,6 +15,7 @@ pub struct Stroke {
 // What stands in a place that is not counted.
 pub const NO_STROKE: Stroke = Stroke {
     direction: 0,
+    roll: 0,
     start_bar: 0,
     end_bar: 0,
     start_price: 0.0,

@@ -13,13 +13,13 @@ use Rattle.chart.specs.declared.Triple.{Triple}
 use Rattle.rules.specs.Text.{ascii}
 use Rattle.rules.specs.Refusals.{refuse, aboveOne, badPrices}
 use Rattle.rules.specs.Answer.{refused, given, answered}
-use Rattle.rules.specs.File.{Kind, ST, SG, BG, SU, BR, markOf, width, isMark, kindOf, Record, stroke, segment, big, superior}
+use Rattle.rules.specs.File.{Kind, ST, SR, SG, BG, SU, BR, markOf, width, isMark, kindOf, Record, stroke, segment, big, superior}
 use Rattle.rules.specs.File.{strokeIn, tripleIn, recordIn, fieldRefusal}
 use Rattle.laws.proofs.Lists.{nil, cons, find-none}
 use Rattle.chart_read.specs.declared.Level.{Level}
 use Rattle.chart_read.specs.declared.Mark.{Mark}
 use Rattle.chart_read.specs.declared.Counts.{Counts}
-use Rattle.chart_read.specs.Heads.{levelKind, kindBy, tripleBy, checked, fullBy}
+use Rattle.chart_read.specs.Heads.{levelKind, kindBy, tripleBy, checkedAs, checked, fullBy}
 use Rattle.chart_read.specs.declared.Level.the-variants as level
 use Rattle.chart_read.specs.declared.Mark.the-variants as mark
 
@@ -35,10 +35,10 @@ module _ (a b : ℕ) where
   second k h = rw (ne-eqb b (getD (markOf k) 1 0) h) (and-false (eqb a (getD (markOf k) 0 0)))
 
   no-kind :
-      isMark a b ST ≡ false → isMark a b SG ≡ false → isMark a b BG ≡ false → isMark a b SU ≡ false → isMark a b BR ≡ false
+      isMark a b ST ≡ false → isMark a b SR ≡ false → isMark a b SG ≡ false → isMark a b BG ≡ false → isMark a b SU ≡ false → isMark a b BR ≡ false
       → none ≡ kindOf a b
   unfolding kindOf
-  no-kind st sg bg su br = sym (find-none (isMark a b) (cons st (cons sg (cons bg (cons su (cons br nil))))))
+  no-kind st sr sg bg su br = sym (find-none (isMark a b) (cons st (cons sr (cons sg (cons bg (cons su (cons br nil)))))))
 
   pub mark-bar : a ≡ 66 → b ≡ 82 → some BR ≡ kindOf a b
   unfolding kindOf isMark markOf ascii
@@ -52,11 +52,15 @@ module _ (a b : ℕ) where
   unfolding markOf ascii
   mark-no-b p q r =
       let s : (a ≡ 83 → ⊥) = λ e. omega arith in
-      no-kind (first ST s) (first SG s) (second BG r) (first SU s) (second BR q)
+      no-kind (first ST s) (first SR s) (first SG s) (second BG r) (first SU s) (second BR q)
 
   pub mark-stroke : a ≡ 83 → b ≡ 84 → some ST ≡ kindOf a b
   unfolding kindOf isMark markOf ascii
   mark-stroke p q = rw (p, q)
+
+  pub mark-rolled : a ≡ 83 → b ≡ 82 → some SR ≡ kindOf a b
+  unfolding kindOf isMark markOf ascii
+  mark-rolled p q = rw (p, q)
 
   pub mark-segment : a ≡ 83 → b ≡ 71 → some SG ≡ kindOf a b
   unfolding kindOf isMark markOf ascii
@@ -66,15 +70,15 @@ module _ (a b : ℕ) where
   unfolding kindOf isMark markOf ascii
   mark-superior p q = rw (p, q)
 
-  pub mark-no-s : a ≡ 83 → (b ≡ 84 → ⊥) → (b ≡ 71 → ⊥) → (b ≡ 85 → ⊥) → none ≡ kindOf a b
+  pub mark-no-s : a ≡ 83 → (b ≡ 84 → ⊥) → (b ≡ 82 → ⊥) → (b ≡ 71 → ⊥) → (b ≡ 85 → ⊥) → none ≡ kindOf a b
   unfolding markOf ascii
-  mark-no-s p q r t =
+  mark-no-s p q u r t =
       let s : (a ≡ 66 → ⊥) = λ e. omega arith in
-      no-kind (second ST q) (second SG r) (first BG s) (second SU t) (first BR s)
+      no-kind (second ST q) (second SR u) (second SG r) (first BG s) (second SU t) (first BR s)
 
   pub mark-none : (a ≡ 66 → ⊥) → (a ≡ 83 → ⊥) → none ≡ kindOf a b
   unfolding markOf ascii
-  mark-none p q = no-kind (first ST q) (first SG q) (first BG p) (first SU q) (first BR p)
+  mark-none p q = no-kind (first ST q) (first SR q) (first SG q) (first BG p) (first SU q) (first BR p)
 
 pub level-width : (m : Mark) (l : Level) → m ≡ mark.Triple l → 5 ≡ width (kindBy m)
 unfolding width
@@ -87,31 +91,36 @@ level-width m l e = go l ∙ ap (λ (k : Mark). width (kindBy k)) (sym e)
 
 -- ---- the record of a kind, by the tests on its fields
 
-module _ (s : List ℕ) (k : Kind) (r : Record) (e : r ≡ recordIn k s) where
-  with-number : (n : ℕ) → fieldRefusal r ≡ suc n → refused (suc n) ≡ checked k s
-  unfolding checked answered
+module _ (r q : Record) (e : r ≡ q) where
+  with-number : (n : ℕ) → fieldRefusal r ≡ suc n → refused (suc n) ≡ checkedAs q
+  unfolding checkedAs answered
   with-number n h = rw (← e, h)
 
-  with-none : fieldRefusal r ≡ 0 → given r ≡ checked k s
-  unfolding checked answered
+  with-none : fieldRefusal r ≡ 0 → given r ≡ checkedAs q
+  unfolding checkedAs answered
   with-none h = rw (← e, h)
 
-module _ (s : List ℕ) (t : Stroke) (e : t ≡ strokeIn s) where
-  is-stroke : stroke t ≡ recordIn ST s
-  unfolding recordIn
-  is-stroke = ap stroke e
-
-  pub stroke-direction : aboveOne (t .direction) ≡ true → refused 2 ≡ checked ST s
+module _ (t q : Stroke) (e : t ≡ q) where
+  pub stroke-direction : aboveOne (t .direction) ≡ true → refused 2 ≡ checkedAs (stroke q)
   unfolding fieldRefusal refuse
-  stroke-direction h = with-number s ST (stroke t) is-stroke 1 (rw h)
+  stroke-direction h = with-number (stroke t) (stroke q) (ap stroke e) 1 (rw h)
 
-  pub stroke-prices : aboveOne (t .direction) ≡ false → badPrices t ≡ true → refused 1 ≡ checked ST s
+  pub stroke-prices : aboveOne (t .direction) ≡ false → badPrices t ≡ true → refused 1 ≡ checkedAs (stroke q)
   unfolding fieldRefusal refuse
-  stroke-prices h p = with-number s ST (stroke t) is-stroke 0 (rw (h, p))
+  stroke-prices h p = with-number (stroke t) (stroke q) (ap stroke e) 0 (rw (h, p))
 
-  pub stroke-given : aboveOne (t .direction) ≡ false → badPrices t ≡ false → given (stroke t) ≡ checked ST s
+  pub stroke-given : aboveOne (t .direction) ≡ false → badPrices t ≡ false → given (stroke t) ≡ checkedAs (stroke q)
   unfolding fieldRefusal refuse
-  stroke-given h p = with-none s ST (stroke t) is-stroke (rw (h, p))
+  stroke-given h p = with-none (stroke t) (stroke q) (ap stroke e) (rw (h, p))
+
+-- the mark tells the roll byte
+pub plain-checked : (s : List ℕ) (m : Mark) → m ≡ mark.Stroke → checkedAs (stroke (strokeIn 0 s)) ≡ checked (kindBy m) s
+unfolding checked recordIn
+plain-checked s m e = rw e
+
+pub rolled-checked : (s : List ℕ) (m : Mark) → m ≡ mark.Rolled → checkedAs (stroke (strokeIn 1 s)) ≡ checked (kindBy m) s
+unfolding checked recordIn
+rolled-checked s m e = rw e
 
 module _ (s : List ℕ) (t : Triple) (e : t ≡ tripleIn s) where
   is-triple : (l : Level) → tripleBy l t ≡ recordIn (levelKind l) s
@@ -127,17 +136,17 @@ module _ (s : List ℕ) (t : Triple) (e : t ≡ tripleIn s) where
   by-direction level.Superior = refl
 
   pub triple-direction : (l : Level) → aboveOne (t .direction) ≡ true → refused 2 ≡ checked (levelKind l) s
-  unfolding refuse
-  triple-direction l h = with-number s (levelKind l) (tripleBy l t) (is-triple l) 1 (by-direction l ∙ rw h)
+  unfolding refuse checked
+  triple-direction l h = with-number (tripleBy l t) (recordIn (levelKind l) s) (is-triple l) 1 (by-direction l ∙ rw h)
 
   pub triple-given : (l : Level) → aboveOne (t .direction) ≡ false → given (tripleBy l t) ≡ checked (levelKind l) s
-  unfolding refuse
-  triple-given l h = with-none s (levelKind l) (tripleBy l t) (is-triple l) (by-direction l ∙ rw h)
+  unfolding refuse checked
+  triple-given l h = with-none (tripleBy l t) (recordIn (levelKind l) s) (is-triple l) (by-direction l ∙ rw h)
 
 -- a bar has no field that is tested, and takes no place
 pub bar-given : (s : List ℕ) (m : Mark) → m ≡ mark.Bar → given (recordIn BR s) ≡ checked (kindBy m) s
-unfolding recordIn fieldRefusal
-bar-given s m e = with-none s BR (recordIn BR s) refl refl ∙ rw e
+unfolding checked recordIn fieldRefusal
+bar-given s m e = with-none (recordIn BR s) (recordIn BR s) refl refl ∙ rw e
 
 pub bar-free : (c : Counts) (m : Mark) → m ≡ mark.Bar → false ≡ fullBy c (kindBy m)
 unfolding fullBy

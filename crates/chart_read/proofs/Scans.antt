@@ -7,6 +7,7 @@ use mathlib.Core.List.{List, [], _∷_}
 use mathlib.Core.Option.{Option, none, some}
 use lib.ListN.{length, take, drop, length-set}
 use lib.Seq.{length-take-le}
+use lib.Dec.{leb}
 use borrow.Author.Tests.{leb-false, le-ltb}
 use Rattle.chart.specs.declared.Chart.{Chart}
 use Rattle.chart.specs.declared.Stroke.{Stroke}
@@ -17,6 +18,7 @@ use Rattle.rules.specs.Refusals.{overfull}
 use Rattle.rules.specs.File.{
   Kind,
   ST,
+  SR,
   SG,
   BG,
   SU,
@@ -41,7 +43,7 @@ use Rattle.rules.specs.File.{
 }
 use Rattle.laws.proofs.Answers.{Counted}
 use Rattle.laws.proofs.Arrays.{Sized, sized-via}
-use Rattle.laws.proofs.FileSteps.{answered-above, readBehind, read-two, accepted, at-end, at-refused, at-given}
+use Rattle.laws.proofs.FileSteps.{stroke-kind, answered-above, readBehind, read-two, accepted, at-end, at-refused, at-given}
 use Rattle.laws.proofs.FileCode.{Room, stored, levels-stored, part}
 use Rattle.chart_read.specs.declared.Counts.{Counts}
 use Rattle.chart_read.specs.declared.Head.{Head}
@@ -102,7 +104,8 @@ module _ (c : Chart) where
 
   free : (r : Record) → fullBy countsOf (kind r) ≡ false → Free r
   unfolding fullBy kind
-  free (stroke s) e = leb-false 512 (c .«stroke_count») e
+  free (stroke s) e =
+      let n = c .«stroke_count» in leb-false 512 n (sym (stroke-kind (fullBy countsOf) (leb 512 n) refl refl s) ∙ e)
   free (segment t) e = leb-false 256 (c .«segment_count») e
   free (big t) e = leb-false 256 (c .«big_count») e
   free (superior t) e = leb-false 256 (c .«superior_count») e
@@ -133,6 +136,7 @@ module _ (c : Chart) where
   agree : Sized c → Counted c → (k : Kind) → fullBy countsOf k ≡ full (levelsOf c) k
   unfolding fullBy full levelsOf
   agree z k ST = rw (length-take-le (c .«stroke_count») (c .strokes) (omega arith))
+  agree z k SR = rw (length-take-le (c .«stroke_count») (c .strokes) (omega arith))
   agree z k SG = rw (length-take-le (c .«segment_count») (c .segments) (omega arith))
   agree z k BG = rw (length-take-le (c .«big_count») (c .bigs) (omega arith))
   agree z k SU = rw (length-take-le (c .«superior_count») (c .superiors) (omega arith))
@@ -240,6 +244,11 @@ module _ {bytes : List ℕ} {c : Chart} {passed at : ℕ} {o : Head} (w : Turn b
             rw (t, ← content-stored c passed r (room c r (i .sized) f))
             (sym (at-given at (contentOf c passed) bytes r (by-content (given r) e)) ∙ i .left);
       }
+
+  -- a stroke has 21 bytes behind either mark
+  pub goes-on-stroke : (s : Stroke) → answerAt bytes at o ≡ given (stroke s) → Reached bytes (stored c (stroke s)) passed (at + 23)
+  unfolding width
+  goes-on-stroke s e = goes-on (stroke s) e (at + 23) (omega (arith, stroke-kind width 21 refl refl s))
 
   -- a bar is passed over
   pub goes-over : o ≡ head.Bar → Reached bytes c (passed + 1) (at + 18)

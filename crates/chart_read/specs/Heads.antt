@@ -6,7 +6,7 @@ use mathlib.Core.Option.{Option, none, some}
 use lib.Dec.{leb}
 use Rattle.chart.specs.declared.Triple.{Triple}
 use Rattle.rules.specs.Answer.{Answer, refused, given, answered}
-use Rattle.rules.specs.File.{Kind, ST, SG, BG, SU, BR, Record, stroke, segment, big, superior, recordIn, fieldRefusal}
+use Rattle.rules.specs.File.{Kind, ST, SR, SG, BG, SU, BR, Record, stroke, segment, big, superior, recordIn, fieldRefusal}
 use Rattle.chart_read.specs.declared.Level.{Level}
 use Rattle.chart_read.specs.declared.Mark.{Mark}
 use Rattle.chart_read.specs.declared.MarkRead.{MarkRead}
@@ -25,6 +25,7 @@ levelKind level.Superior = SU
 
 abbrev pub kindBy : Mark → Kind
 kindBy mark.Stroke = ST
+kindBy mark.Rolled = SR
 kindBy (mark.Triple l) = levelKind l
 kindBy mark.Bar = BR
 
@@ -44,13 +45,17 @@ answerOf (head.Stroke s) behind = given (stroke s)
 answerOf (head.Triple l t) behind = given (tripleBy l t)
 answerOf head.Bar behind = given (recordIn BR behind)
 
--- the record of a kind in some bytes, by its fields' refusal
+-- a record, by its fields' refusal; that of a kind in some bytes
+unfoldable pub checkedAs : Record → Answer Record
+checkedAs r = answered (fieldRefusal r) r
+
 unfoldable pub checked : Kind → List ℕ → Answer Record
-checked k bytes = answered (fieldRefusal (recordIn k bytes)) (recordIn k bytes)
+checked k bytes = checkedAs (recordIn k bytes)
 
 -- no place is left for one more of a kind; a bar takes none
 unfoldable pub fullBy : Counts → Kind → Bool
 fullBy c ST = leb 512 (c .strokes)
+fullBy c SR = leb 512 (c .strokes)
 fullBy c SG = leb 256 (c .segments)
 fullBy c BG = leb 256 (c .bigs)
 fullBy c SU = leb 256 (c .superiors)

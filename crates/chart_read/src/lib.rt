@@ -5,9 +5,9 @@ use chart::Triple;
 ghost use mathlib.Core.Path.{_≡_};
 ghost use Prim.Native.Nat.{_≤_};
 ghost use lib.ListN.{length, drop};
-ghost use Rattle.rules.specs.File.{ST, kindOf, width, readRecord, readFile};
+ghost use Rattle.rules.specs.File.{stroke, strokeIn, kindOf, width, readRecord, readFile};
 ghost use Rattle.chart_read.specs.Loaded.{loaded};
-ghost use Rattle.chart_read.specs.Heads.{levelKind, kindBy, markedBy, answerOf, checked, fullBy};
+ghost use Rattle.chart_read.specs.Heads.{levelKind, kindBy, markedBy, answerOf, checkedAs, checked, fullBy};
 
 // A number, 0 where the file is accepted; the place of the refused record's mark, 0 where none is refused. The chart, which beside a
 // refusal is free, and how many BR records were passed over, 0 beside a refusal.
@@ -25,9 +25,10 @@ enum Level {
     Superior,
 }
 
-// The kinds of record.
+// The kinds of record. A rolled stroke has a mark of its own.
 enum Mark {
     Stroke,
+    Rolled,
     Triple(Level),
     Bar,
 }
@@ -89,6 +90,9 @@ fn mark_of(a: u8, b: u8) -> MarkRead
         if b == b'T' {
             return MarkRead::Mark(Mark::Stroke);
         }
+        if b == b'R' {
+            return MarkRead::Mark(Mark::Rolled);
+        }
         if b == b'G' {
             return MarkRead::Mark(Mark::Triple(Level::Segment));
         }
@@ -105,6 +109,7 @@ fn width_of(m: Mark) -> usize
 {
     match m {
         Mark::Stroke => 21,
+        Mark::Rolled => 21,
         Mark::Triple(_) => 5,
         Mark::Bar => 16,
     }
@@ -121,12 +126,13 @@ fn level_full(counts: Counts, l: Level) -> bool
     }
 }
 
-// Whether there is no place for one more of a kind. A bar takes none.
+// Whether there is no place for one more of a kind: strokes have theirs together, rolled or not. A bar takes none.
 fn is_full(counts: Counts, m: Mark) -> bool
     ensures { λ r. ⌜ r ≡ fullBy counts (kindBy m) ⌝ }
 {
     match m {
         Mark::Stroke => 512 <= counts.strokes,
+        Mark::Rolled => 512 <= counts.strokes,
         Mark::Triple(l) => level_full(counts, l),
         Mark::Bar => false,
     }
@@ -144,12 +150,12 @@ fn checked_triple(s: &[u8], l: Level) -> Head
     Head::Triple(l, triple)
 }
 
-// The stroke, where its direction and its prices are.
-fn checked_stroke(s: &[u8]) -> Head
+// The stroke with the roll byte that its mark tells, where its direction and its prices are.
+fn checked_stroke(s: &[u8], roll: u8) -> Head
     requires { ⌜ 21 ≤ length (now s) ⌝ }
-    ensures { λ r. ⌜ answerOf r (now (s .entry)) ≡ checked ST (now (s .entry)) ⌝ }
+    ensures { λ r. ⌜ answerOf r (now (s .entry)) ≡ checkedAs (stroke (strokeIn roll (now (s .entry)))) ⌝ }
 {
-    let stroke = fields::stroke_in(s);
+    let stroke = fields::stroke_in(s, roll);
     if 1 < stroke.direction {
         return Head::Refused(2);
     }
@@ -165,7 +171,8 @@ fn checked_record(s: &[u8], m: Mark) -> Head
     ensures { λ r. ⌜ answerOf r (now (s .entry)) ≡ checked (kindBy m) (now (s .entry)) ⌝ }
 {
     match m {
-        Mark::Stroke => checked_stroke(s),
+        Mark::Stroke => checked_stroke(s, 0),
+        Mark::Rolled => checked_stroke(s, 1),
         Mark::Triple(l) => checked_triple(s, l),
         Mark::Bar => Head::Bar,
     }

@@ -14,7 +14,7 @@ use Rattle.rules.specs.Records.{Levels, levelsOf}
 use Rattle.rules.specs.File.{recordBytes, Content, nothing, written, bufferAfter}
 use Rattle.rules.specs.File as file
 use Rattle.rules.proofs.Computing.{everything}
-use Rattle.rules.proofs.Charts.{turn, triple, stroke, strokesOf, levels, counted}
+use Rattle.rules.proofs.Charts.{turn, triple, stroke, withRoll, strokesOf, levels, counted}
 use Rattle.chart_trip.specs.Trip.{tripCall}
 use Rattle.chart_trip.specs.Same.{Writing, refusalOf, sameRefusal, fileAfter, Compared}
 
@@ -25,6 +25,13 @@ noChart n = counted n 0 0 0 (levels [] [] [] [])
 -- n counted of one stroke, up from bar 0 to a bar
 abbrev upTo : ℕ → ℕ → Chart
 upTo n end = counted n 0 0 0 (levels (strokesOf 1 (turn 0 1 ∷ turn end 5 ∷ [])) [] [] [])
+
+-- the stroke of `upTo 1 1` with a roll byte
+abbrev rolledBy : ℕ → Levels
+rolledBy r = levels (withRoll r (stroke 1 (turn 0 1) (turn 1 5)) ∷ []) [] [] []
+
+abbrev chartBy : ℕ → Chart
+chartBy r = counted 1 0 0 0 (rolledBy r)
 
 -- one superior, up to a big
 abbrev superiorTo : ℕ → Chart
@@ -49,6 +56,8 @@ pub record Facts : Type 0 where
   pub write-3 : tripCall (upTo 1 1) (replicate 22 0) ≡ at 3 0
   -- the chart comes back, and one of no records too
   pub back : tripCall (upTo 1 1) (replicate 23 0) ≡ given (record { levels = levels (strokesOf 1 (turn 0 1 ∷ turn 1 5 ∷ [])) [] [] []; passed = 0 })
+  pub rolled-back : tripCall (chartBy 1) (replicate 23 0) ≡ given (record { levels = rolledBy 1; passed = 0 })
+  pub byte-2 : tripCall (chartBy 2) (replicate 23 0) ≡ at 21 0
   pub none-back : tripCall (noChart 0) [] ≡ given nothing
   -- a trip that writes no byte is none
   pub writes : bufferAfter (upTo 1 1) (replicate 23 0) ≡ replicate 23 0 → ⊥
@@ -60,8 +69,9 @@ pub record Facts : Type 0 where
   pub neither : sameRefusal (oneStroke 23) (oneStroke 24) ≡ 0
   -- equal charts, whatever lies behind a count, are not told apart
   pub equal : (f g : List ℕ) → Compared (writing (upTo 0 1) 0) (writing (upTo 0 2) 0) 0 false f g → ⊥
-  -- another stroke, or another superior, is not called the same
+  -- another stroke, roll byte or superior is not called the same
   pub other-stroke : (f g : List ℕ) → Compared (writing (upTo 1 1) 0) (writing (upTo 1 2) 0) 0 true f g → ⊥
+  pub other-roll : (f g : List ℕ) → Compared (writing (chartBy 0) 0) (writing (chartBy 1) 0) 0 true f g → ⊥
   pub other-superior : (f g : List ℕ) → Compared (writing (superiorTo 1) 0) (writing (superiorTo 2) 0) 0 true f g → ⊥
   -- `same` tells of the files, not of the charts alone
   pub tells :
@@ -91,6 +101,8 @@ facts =
       write-21 = refl;
       write-3 = refl;
       back = refl;
+      rolled-back = refl;
+      byte-2 = refl;
       none-back = refl;
       writes = λ e. let z : _≡_ {A = ℕ} 83 0 = ap (λ (l : List ℕ). getD l 0 0) e in omega arith;
       first-21 = refl;
@@ -102,6 +114,10 @@ facts =
       other-stroke =
           λ f g k.
           let z : _≡_ {A = ℕ} 1 2 = ap (λ (c : Levels). getD (map (λ (s : Stroke). s .«end_bar») (c .strokes)) 0 0) (k .only-if-equal refl refl) in
+          omega arith;
+      other-roll =
+          λ f g k.
+          let z : _≡_ {A = ℕ} 0 1 = ap (λ (c : Levels). getD (map (λ (s : Stroke). s .roll) (c .strokes)) 0 0) (k .only-if-equal refl refl) in
           omega arith;
       other-superior =
           λ f g k.

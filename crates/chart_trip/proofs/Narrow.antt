@@ -27,7 +27,7 @@ narrow-two a b h k = or-i _ _ (lt-leb 65536 a h) (lt-leb 65536 b k)
 
 narrow-stroke :
     (s : Stroke) (u : Val) → shadow (strokes.the-field .row .own (strokes.the-field .into s) (u ∷ [])) → wideTwo (s .«start_bar») (s .«end_bar») ≡ false
-narrow-stroke s u o = let a = o .1 .1 in narrow-two (s .«start_bar») (s .«end_bar») (a .1 .0 .1) (a .1 .1 .0 .1)
+narrow-stroke s u o = let bars = o .1 .1 .1 .1 in narrow-two (s .«start_bar») (s .«end_bar») (bars .0 .1) (bars .1 .0 .1)
 
 narrow-triple : (t : Triple) (u : Val) → shadow (triples.the-field .row .own (triples.the-field .into t) (u ∷ [])) → wideTwo (t .first) (t .last) ≡ false
 narrow-triple t u o = let a = o .1 .1 in narrow-two (t .first) (t .last) (a .1 .0 .1) (a .1 .1 .0 .1)

@@ -9,9 +9,9 @@ use Rattle.chart.specs.declared.Stroke.{Stroke}
 use Rattle.chart.specs.declared.Triple.{Triple}
 use Rattle.price.specs.Bytes.{bytesOf}
 use Rattle.rules.specs.Lists.{any, each}
-use Rattle.rules.specs.Refusals.{badPrices, wrongStroke, aboveOne}
-use Rattle.rules.specs.File.{stroke, kind, width, tripleBytes, recordBytes}
-use Rattle.laws.proofs.FileBytes.{length-record}
+use Rattle.rules.specs.Refusals.{wrongBytes, badPrices, wrongStroke}
+use Rattle.rules.specs.File.{stroke, tripleBytes, recordBytes}
+use Rattle.laws.proofs.FileBytes.{length-stroke}
 use Rattle.laws.proofs.Lists.{any-at}
 use Rattle.laws.proofs.Tests.{or-r}
 use Rattle.laws.proofs.Arrays.{at-in, left-more, left-none}
@@ -23,10 +23,6 @@ use Rattle.laws.proofs.FilePut.{Next}
 length-marked : (a b : ℕ) (t : Triple) → length (marked a b t) ≡ 7
 unfolding marked tripleBytes bytesOf
 length-marked a b t = refl
-
-length-stroke : (s : Stroke) → length (recordBytes (stroke s)) ≡ 23
-unfolding width kind
-length-stroke s = length-record (stroke s) tt
 
 module _ (a b n i : ℕ) (xs : List Triple) (h : n ≤ length xs) where
   pub triple-next :
@@ -55,4 +51,4 @@ module _ (n i : ℕ) (xs : List Stroke) (h : n ≤ length xs) where
   unfolding wrongStroke
   stroke-prices k e =
       let s = getD xs i no-stroke in
-      or-r (aboveOne (s .direction)) (badPrices s) (any-at wrongStroke (take n xs) i s e (at-in n i xs no-stroke k (omega arith)))
+      or-r (wrongBytes s) (badPrices s) (any-at wrongStroke (take n xs) i s e (at-in n i xs no-stroke k (omega arith)))

@@ -5,7 +5,7 @@ use mathlib.Core.Path.{_≡_, refl}
 use mathlib.Core.Bool.{false, not}
 use mathlib.Core.List.{List, [], _∷_}
 use lib.ListN.{getD}
-use borrow.Author.Tests.{not-false}
+use borrow.Author.Tests.{not-false, ne-eqb}
 use Rattle.chart.specs.declared.Stroke.{Stroke}
 use Rattle.chart.specs.declared.Triple.{Triple}
 use Rattle.price.specs.Price.{isPrice, Price}
@@ -29,16 +29,25 @@ byte : (d : ℕ) → d < 256 → d ≡ d % 256
 byte d h = omega arith
 
 pub stroke-made :
-    (s : Stroke) (d p q u v : ℕ) (a b : List ℕ) → s .direction < 256 → d ≡ s .direction → p ≡ s .«start_bar» % 256
+    (s : Stroke) (m d p q u v : ℕ) (a b : List ℕ) → s .direction < 256 → 83 ∷ m ∷ [] ≡ markOf (kind (stroke s)) → d ≡ s .direction → p ≡ s .«start_bar» % 256
     → q ≡ s .«start_bar» / 256 % 256 → u ≡ s .«end_bar» % 256 → v ≡ s .«end_bar» / 256 % 256 → a ≡ priceBytes (s .«start_price»)
     → b ≡ priceBytes (s .«end_price»)
     → _≡_ {A = List ℕ}
-    (83 ∷ 84 ∷ d ∷ p ∷ q ∷ u ∷ v
+    (83 ∷ m ∷ d ∷ p ∷ q ∷ u ∷ v
     ∷ getD a 0 0 ∷ getD a 1 0 ∷ getD a 2 0 ∷ getD a 3 0 ∷ getD a 4 0 ∷ getD a 5 0 ∷ getD a 6 0 ∷ getD a 7 0
     ∷ getD b 0 0 ∷ getD b 1 0 ∷ getD b 2 0 ∷ getD b 3 0 ∷ getD b 4 0 ∷ getD b 5 0 ∷ getD b 6 0 ∷ getD b 7 0 ∷ [])
     (recordBytes (stroke s))
-unfolding recordBytes markOf kind ascii fieldBytes strokeBytes bytesOf
-stroke-made s d p q u v a b h e f g i j k l = rw (e, f, g, i, j, k, l, ← byte (s .direction) h)
+unfolding recordBytes fieldBytes strokeBytes bytesOf
+stroke-made s m d p q u v a b h w e f g i j k l = rw (← w, e, f, g, i, j, k, l, ← byte (s .direction) h)
+
+-- its mark
+pub rolled-mark : (s : Stroke) → s .roll ≡ 1 → 83 ∷ 82 ∷ [] ≡ markOf (kind (stroke s))
+unfolding markOf kind ascii
+rolled-mark s e = rw e
+
+pub plain-mark : (s : Stroke) → (s .roll ≡ 1 → ⊥) → 83 ∷ 84 ∷ [] ≡ markOf (kind (stroke s))
+unfolding markOf kind ascii
+plain-mark s h = rw (ne-eqb (s .roll) 1 h)
 
 pub triple-made :
     (a b d p q u v : ℕ) (t : Triple) → t .direction < 256 → d ≡ t .direction → p ≡ t .first % 256 → q ≡ t .first / 256 % 256

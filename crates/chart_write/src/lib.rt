@@ -4,18 +4,28 @@ use chart::Stroke;
 use chart::Triple;
 ghost use mathlib.Core.Path.{_≡_};
 ghost use mathlib.Core.Bool.{false};
-ghost use mathlib.Core.List.{map};
+ghost use mathlib.Core.List.{[], _∷_, map};
 ghost use Prim.Native.Nat.{_+_, _*_, _≤_};
 ghost use lib.ListN.{length, take};
 ghost use Rattle.rules.specs.Answer.{answered};
 ghost use Rattle.rules.specs.Lists.{any, each};
 ghost use Rattle.rules.specs.Records.{levelsOf};
 ghost use Rattle.rules.specs.Refusals.{refuse, badPrices, wrongStroke, badChart};
-ghost use Rattle.rules.specs.File.{stroke, recordBytes, fill, written, writeRefusal, writeCall, bufferAfter};
+ghost use Rattle.rules.specs.File.{stroke, markOf, kind, recordBytes, fill, written, writeRefusal, writeCall, bufferAfter};
 ghost use Rattle.laws.specs.Put.{putAt};
 ghost use Rattle.chart_write.specs.Marked.{marked};
 
 // ---- one record
+
+// The second byte of a stroke's mark: SR where it is rolled, ST else.
+fn mark_end(s: Stroke) -> u8
+    ensures { λ r. ⌜ 83 ∷ r ∷ [] ≡ markOf (kind (stroke s)) ⌝ }
+{
+    if s.roll == 1 {
+        return b'R';
+    }
+    b'T'
+}
 
 // A stroke's record.
 fn stroke_bytes(s: Stroke) -> [u8; 23]
@@ -26,7 +36,7 @@ fn stroke_bytes(s: Stroke) -> [u8; 23]
     let b = fields::price_bytes(s.end_price);
     [
         b'S',
-        b'T',
+        mark_end(s),
         s.direction,
         fields::low_byte(s.start_bar),
         fields::high_byte(s.start_bar),

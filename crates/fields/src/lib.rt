@@ -77,14 +77,15 @@ pub fn triple_in(s: &[u8]) -> Triple
     }
 }
 
-// The stroke in the first bytes, whatever its prices are.
-pub fn stroke_in(s: &[u8]) -> Stroke
+// The stroke in the first bytes, whatever its prices are, with a roll byte.
+pub fn stroke_in(s: &[u8], roll: u8) -> Stroke
     requires { ⌜ 21 ≤ length (now s) ⌝ }
-    ensures { λ r. ⌜ r ≡ strokeIn (now (s .entry)) ⌝ }
+    ensures { λ r. ⌜ r ≡ strokeIn roll (now (s .entry)) ⌝ }
 {
     let begun = triple_in(s);
     Stroke {
         direction: begun.direction,
+        roll: roll,
         start_bar: begun.first,
         end_bar: begun.last,
         start_price: price_at(s, 5),

@@ -7,13 +7,12 @@ use mathlib.Core.List.{List, [], _∷_}
 use mathlib.Core.Option.{Option, none, some}
 use lib.ListN.{length, getElem?}
 use lib.Dec.{eqb, leb}
-use lib.Ieee.{eq}
 use borrow.Author.Tests.{eqb-true, leb-false, not-false}
 use Rattle.chart.specs.declared.Stroke.{Stroke}
 use Rattle.chart.specs.declared.Triple.{Triple}
 use Rattle.rules.specs.Records.{Levels}
 use Rattle.rules.specs.Ranges.{lastStroke}
-use Rattle.rules.specs.Refusals.{badStroke, unjoined, brokenStrokes, brokenTriples, brokenLevels}
+use Rattle.rules.specs.Refusals.{badStroke, unmet, unjoined, brokenStrokes, brokenTriples, brokenLevels}
 use Rattle.laws.proofs.Tests.{or-l, or-r}
 use Rattle.laws.proofs.Lists.{nil, Sorted, none-left, then, sorted-map, sorted-more, sorted-at, sorted-collect, sorted-image, then-some}
 use Rattle.laws.proofs.Ordered.{unbroken}
@@ -38,9 +37,8 @@ joined-bar : (p s : Stroke) → unjoined (some p) s ≡ false → s .«start_bar
 unfolding unjoined
 joined-bar p s e =
     let bars = eqb (s .«start_bar») (p .«end_bar») in
-    let prices = not (eq (s .«start_price») (p .«end_price»)) in
     eqb-true (s .«start_bar») (p .«end_bar»)
-    (not-false bars (or-l (not bars) prices (or-l (not bars || prices) (eqb (s .direction) (p .direction)) e)))
+    (not-false bars (or-l (not bars) (unmet p s) (or-l (not bars || unmet p s) (eqb (s .direction) (p .direction)) e)))
 
 strokes-behind : (p : Stroke) (ss : List Stroke) → brokenStrokes (some p) ss ≡ false → Sorted EndsBefore (p ∷ ss)
 unfolding brokenStrokes

@@ -6,6 +6,7 @@ use mathlib.Core.Bool.{Bool, true, false, not}
 use mathlib.Core.List.{List, [], _∷_, _++_, map, foldl, foldl-append, append-assoc, append-nil}
 use lib.ListN.{length, length-append}
 use lib.Seq.{drop-at}
+use lib.Dec.{leb}
 use borrow.Author.Tests.{lt-leb}
 use Rattle.chart.specs.declared.Stroke.{Stroke}
 use Rattle.chart.specs.declared.Triple.{Triple}
@@ -31,7 +32,6 @@ use Rattle.rules.specs.File.{
   nothing,
   append,
   full,
-  fieldRefusal,
   readRecord,
   readFrom,
   readFile,
@@ -42,9 +42,9 @@ use Rattle.rules.specs.File.{
 use Rattle.laws.proofs.Tests.{or-l, or-r, refuse-no, length-snoc}
 use Rattle.laws.proofs.Ordered.{chart-fit}
 use Rattle.laws.proofs.Lists.{All, nil, cons, all-of, all-both}
-use Rattle.laws.proofs.FileSteps.{read-known, behind-full, read-refused, read-given}
+use Rattle.laws.proofs.FileSteps.{stroke-kind, read-known, behind-full, read-refused, read-given}
 use Rattle.laws.proofs.FileBytes.{wide, Whole, Good, length-fields, length-record, record-back}
-use Rattle.laws.proofs.FileHeld.{anyLevel, every-any, every-all, right-of, every-right}
+use Rattle.laws.proofs.FileHeld.{anyLevel, every-any, every-all, wrong, every-right}
 
 -- ---- places
 
@@ -76,7 +76,9 @@ below-all c (r ∷ rs) = omega (arith, below-append c r, below-all (append c r) 
 
 has-place : (c : Content) (d : Levels) (r : Record) → Below (append c r .levels) d → Within d → full (c .levels) (kind r) ≡ false
 unfolding append withStrokes withSegments withBigs withSuperiors full kind
-has-place c d (stroke s) b w = lt-leb 512 (length (c .levels .strokes)) (omega (arith, length-snoc (c .levels .strokes) s))
+has-place c d (stroke s) b w =
+    let n = length (c .levels .strokes) in
+    stroke-kind (full (c .levels)) (leb 512 n) refl refl s ∙ lt-leb 512 n (omega (arith, length-snoc (c .levels .strokes) s))
 has-place c d (segment t) b w = lt-leb 256 (length (c .levels .segments)) (omega (arith, length-snoc (c .levels .segments) t))
 has-place c d (big t) b w = lt-leb 256 (length (c .levels .bigs)) (omega (arith, length-snoc (c .levels .bigs) t))
 has-place c d (superior t) b w = lt-leb 256 (length (c .levels .superiors)) (omega (arith, length-snoc (c .levels .superiors) t))
@@ -185,7 +187,7 @@ good-records : (c : Levels) → badLevels c ≡ false → anyLevel wide c ≡ fa
 good-records c b w =
     let shaped : All (λ (r : Record). (wide r ≡ false) × Whole r) (recordsOf c) =
     all-both (λ r n h. (n, h)) (every-all (every-any wide c w)) (whole-records c) in
-    all-both (λ r g s. record { right = right-of r g; narrow = s .0; whole = s .1 }) (every-all (every-right c b)) shaped
+    all-both (λ r g s. record { right = g; narrow = s .0; whole = s .1 }) (every-all (every-right c b)) shaped
 
 -- ---- what is written is read back
 
@@ -234,7 +236,7 @@ passed-bars c (superior t ∷ rs) = passed-bars (append c (superior t)) rs
 passed-bars c (bar bytes ∷ rs) = passed-bars (append c (bar bytes)) rs ∙ omega arith
 
 good-old : (rs : List Record) → All Whole rs → All Good (others rs) → All Good rs
-unfolding isBar fieldRefusal wide
+unfolding isBar wrong wide
 good-old [] w g = nil
 good-old (stroke s ∷ rs) (cons h w) (cons x g) = cons x (good-old rs w g)
 good-old (segment t ∷ rs) (cons h w) (cons x g) = cons x (good-old rs w g)

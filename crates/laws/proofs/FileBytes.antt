@@ -2,12 +2,12 @@
 use Prim.Native.Nat.{ℕ, zero, suc, _^_, _≤_, _<_}
 use native.Mathlib.Nat.{pow-suc}
 use native.Mathlib.Omega.{arith}
-use mathlib.Core.Path.{_≡_, refl, ap, _∙_}
-use mathlib.Core.Bool.{Bool, true, false, not, _||_}
+use mathlib.Core.Path.{_≡_, refl, sym, ap, _∙_}
+use mathlib.Core.Bool.{Bool, true, false, cond, not, _||_}
 use mathlib.Core.List.{List, _++_, append-assoc}
 use lib.ListN.{length, take, length-append}
 use lib.Seq.{take-at, length-take-le}
-use lib.Dec.{leb}
+use lib.Dec.{eqb, leb}
 use lib.Ieee.{Float, binary64, ofBits, toBits}
 use lib.Ieee.Bits.{ofBits-toBits, toBits-lt}
 use borrow.Author.Tests.{ltb-false, leb-false, lt-leb, not-false}
@@ -18,11 +18,12 @@ use Rattle.price.specs.Bytes.{bytesOf, ofBytes, priceBytes}
 use Rattle.price.proofs.Order.{price-fits}
 use Rattle.price.proofs.Bytes.{ofBytes-bytesOf}
 use Rattle.rules.specs.Text.{ascii}
-use Rattle.rules.specs.Refusals.{refuse, aboveOne, badPrices}
+use Rattle.rules.specs.Refusals.{aboveOne, wrongBytes, badPrices, wrongStroke}
 use Rattle.rules.specs.Answer.{given}
 use Rattle.rules.specs.File.{
   Kind,
   ST,
+  SR,
   SG,
   BG,
   SU,
@@ -48,9 +49,10 @@ use Rattle.rules.specs.File.{
   fieldRefusal,
   readRecord,
 }
-use Rattle.laws.proofs.Tests.{or-l, or-r, or-i, refuse-no, refuse-on}
+use Rattle.laws.proofs.Tests.{or-l, or-r, or-i}
 use Rattle.laws.proofs.Lists.{All, nil, cons, all-drop}
-use Rattle.laws.proofs.FileSteps.{read-known, behind-given}
+use Rattle.laws.proofs.FileSteps.{stroke-kind, read-known, behind-given}
+use Rattle.laws.proofs.FileHeld.{wrong, right-of}
 
 -- ---- a record that can be written
 
@@ -74,7 +76,7 @@ Whole (superior t) = Unit {0}
 Whole (bar bytes) = length bytes ≡ 16
 
 pub record Good (r : Record) : Type 0 where
-  pub right : fieldRefusal r ≡ 0
+  pub right : wrong r ≡ false
   pub narrow : wide r ≡ false
   pub whole : Whole r
 
@@ -91,23 +93,37 @@ two-back a b w =
     let g = leb-false 65536 b (or-r (leb 65536 a) (leb 65536 b) w) in
     (ofBytes-bytesOf 2 a (omega arith), ofBytes-bytesOf 2 b (omega arith))
 
-direction-back : (d k : ℕ) → refuse (aboveOne d) 2 k ≡ 0 → ofBytes (bytesOf 1 d) ≡ d
-direction-back d k e = let h = ltb-false 1 d (refuse-no (aboveOne d) 1 k e) in ofBytes-bytesOf 1 d (omega arith)
+direction-back : (d : ℕ) → aboveOne d ≡ false → ofBytes (bytesOf 1 d) ≡ d
+direction-back d e = let h = ltb-false 1 d e in ofBytes-bytesOf 1 d (omega arith)
 
 triple-back :
-    (t : Triple) (rest : List ℕ) → refuse (aboveOne (t .direction)) 2 0 ≡ 0 → wideTwo (t .first) (t .last) ≡ false → tripleIn (tripleBytes t ++ rest) ≡ t
+    (t : Triple) (rest : List ℕ) → aboveOne (t .direction) ≡ false → wideTwo (t .first) (t .last) ≡ false → tripleIn (tripleBytes t ++ rest) ≡ t
 unfolding tripleIn number tripleBytes bytesOf
-triple-back t rest d w = let i = two-back (t .first) (t .last) w in rw (direction-back (t .direction) 0 d, i .0, i .1)
+triple-back t rest d w = let i = two-back (t .first) (t .last) w in rw (direction-back (t .direction) d, i .0, i .1)
 
-stroke-back : (s : Stroke) (rest : List ℕ) → Good (stroke s) → strokeIn (strokeBytes s ++ rest) ≡ s
-unfolding strokeIn number price strokeBytes bytesOf fieldRefusal wide badPrices
+-- the roll byte is that of the mark
+stroke-marked : (s : Stroke) (bytes : List ℕ) → aboveOne (s .roll) ≡ false → recordIn (kind (stroke s)) bytes ≡ stroke (strokeIn (s .roll) bytes)
+unfolding recordIn kind
+stroke-marked s bytes e = go (s .roll) e
+  where
+    go : (r : ℕ) → aboveOne r ≡ false → recordIn (cond (eqb r 1) SR ST) bytes ≡ stroke (strokeIn r bytes)
+    go zero h = refl
+    go (suc zero) h = refl
+    go (suc (suc r)) h = absurd (omega (arith, ltb-false 1 (suc (suc r)) h))
+
+stroke-back : (s : Stroke) (rest : List ℕ) → Good (stroke s) → recordIn (kind (stroke s)) (strokeBytes s ++ rest) ≡ stroke s
+unfolding strokeIn number price strokeBytes bytesOf wrong wrongStroke wrongBytes wide badPrices
 stroke-back s rest g =
-    let both = refuse-no (badPrices s) 0 0 (refuse-on (aboveOne (s .direction)) 1 _ (g .right)) in
+    let bytes = or-l (wrongBytes s) (badPrices s) (g .right) in
+    let both = or-r (wrongBytes s) (badPrices s) (g .right) in
+    let way = or-l (aboveOne (s .direction)) (aboveOne (s .roll)) bytes in
+    let roll = or-r (aboveOne (s .direction)) (aboveOne (s .roll)) bytes in
     let p = not (isPrice (s .«start_price»)) in
     let q = not (isPrice (s .«end_price»)) in
     let i = two-back (s .«start_bar») (s .«end_bar») (g .narrow) in
-    rw (
-      direction-back (s .direction) _ (g .right),
+    stroke-marked s (strokeBytes s ++ rest) roll
+    ∙ rw (
+      direction-back (s .direction) way,
       i .0,
       i .1,
       price-back (s .«start_price») (not-false _ (or-l p q both)),
@@ -115,8 +131,8 @@ stroke-back s rest g =
     )
 
 fields-back : (r : Record) (rest : List ℕ) → Good r → recordIn (kind r) (fieldBytes r ++ rest) ≡ r
-unfolding recordIn kind width fieldBytes fieldRefusal wide
-fields-back (stroke s) rest g = ap stroke (stroke-back s rest g)
+unfolding recordIn kind width fieldBytes wrong wide
+fields-back (stroke s) rest g = stroke-back s rest g
 fields-back (segment t) rest g = ap segment (triple-back t rest (g .right) (g .narrow))
 fields-back (big t) rest g = ap big (triple-back t rest (g .right) (g .narrow))
 fields-back (superior t) rest g = ap superior (triple-back t rest (g .right) (g .narrow))
@@ -124,7 +140,7 @@ fields-back (bar bytes) rest g = ap bar (take-at bytes rest 16 (g .whole))
 
 pub length-fields : (r : Record) → Whole r → length (fieldBytes r) ≡ width (kind r)
 unfolding fieldBytes strokeBytes tripleBytes bytesOf width kind
-length-fields (stroke s) h = refl
+length-fields (stroke s) h = sym (stroke-kind width 21 refl refl s)
 length-fields (segment t) h = refl
 length-fields (big t) h = refl
 length-fields (superior t) h = refl
@@ -133,6 +149,7 @@ length-fields (bar bytes) h = h
 length-mark : (k : Kind) → length (markOf k) ≡ 2
 unfolding markOf ascii
 length-mark ST = refl
+length-mark SR = refl
 length-mark SG = refl
 length-mark BG = refl
 length-mark SU = refl
@@ -142,6 +159,10 @@ pub length-record : (r : Record) → Whole r → length (recordBytes r) ≡ suc 
 unfolding recordBytes
 length-record r h = omega (arith, length-append (markOf (kind r)) (fieldBytes r), length-mark (kind r), length-fields r h)
 
+pub length-stroke : (s : Stroke) → length (recordBytes (stroke s)) ≡ 23
+unfolding width
+length-stroke s = omega (arith, length-record (stroke s) tt, stroke-kind width 21 refl refl s)
+
 pub record-back :
     (fullOf : Kind → Bool) (r : Record) (rest : List ℕ) → Good r → fullOf (kind r) ≡ false → readRecord fullOf (recordBytes r ++ rest) ≡ given r
 unfolding recordBytes
@@ -150,7 +171,7 @@ record-back fullOf r rest g f =
     let same = fields-back r rest g in
     ap (readRecord fullOf) (append-assoc (markOf (kind r)) (fieldBytes r) rest)
     ∙ read-known fullOf (kind r) bytes
-    ∙ behind-given fullOf bytes (kind r) (omega (arith, length-append (fieldBytes r) rest, length-fields r (g .whole))) f (ap fieldRefusal same ∙ g .right)
+    ∙ behind-given fullOf bytes (kind r) (omega (arith, length-append (fieldBytes r) rest, length-fields r (g .whole))) f (ap fieldRefusal same ∙ right-of r (g .right))
     ∙ ap given same
 
 -- ---- where the numbers of a file are bytes
@@ -174,6 +195,7 @@ narrow-two l B = or-i _ _ (lt-leb 65536 (number 1 2 l) (number-lt 1 2 B)) (lt-le
 pub narrow-in : (k : Kind) (l : List ℕ) → All Byte l → wide (recordIn k l) ≡ false
 unfolding wide recordIn strokeIn tripleIn
 narrow-in ST l B = narrow-two l B
+narrow-in SR l B = narrow-two l B
 narrow-in SG l B = narrow-two l B
 narrow-in BG l B = narrow-two l B
 narrow-in SU l B = narrow-two l B
@@ -182,6 +204,7 @@ narrow-in BR l B = refl
 pub whole-in : (k : Kind) (l : List ℕ) → width k ≤ length l → Whole (recordIn k l)
 unfolding recordIn width
 whole-in ST l h = tt
+whole-in SR l h = tt
 whole-in SG l h = tt
 whole-in BG l h = tt
 whole-in SU l h = tt

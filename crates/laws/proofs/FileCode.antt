@@ -87,13 +87,14 @@ module _ (s : List ℕ) where
   two-at i h = let j : suc i ≤ length s = omega arith in rw (drop-cons s i 0 j, drop-cons s (suc i) 0 h) (omega arith)
 
 -- the stroke that begins so
-abbrev pub strokeOf : Triple → Float → Float → Stroke
-strokeOf t x y = record { direction = t .direction; «start_bar» = t .first; «end_bar» = t .last; «start_price» = x; «end_price» = y }
+abbrev pub strokeOf : ℕ → Triple → Float → Float → Stroke
+strokeOf roll t x y =
+    record { direction = t .direction; roll = roll; «start_bar» = t .first; «end_bar» = t .last; «start_price» = x; «end_price» = y }
 
 pub stroke-read :
-    (s : List ℕ) (t : Triple) → t ≡ tripleIn s → (x y : Float) → price 5 s ≡ x → price 13 s ≡ y → strokeOf t x y ≡ strokeIn s
+    (roll : ℕ) (s : List ℕ) (t : Triple) → t ≡ tripleIn s → (x y : Float) → price 5 s ≡ x → price 13 s ≡ y → strokeOf roll t x y ≡ strokeIn roll s
 unfolding strokeIn tripleIn
-stroke-read s t e x y p q = ap (λ (k : Triple). strokeOf k x y) e ∙ rw (p, q)
+stroke-read roll s t e x y p q = ap (λ (k : Triple). strokeOf roll k x y) e ∙ rw (p, q)
 
 -- ---- the part of a slice from a place on
 

@@ -2,28 +2,38 @@
 use Prim.Native.Nat.{ℕ, suc}
 use mathlib.Core.Path.{_≡_, refl, sym, ap, _∙_}
 use mathlib.Core.Bool.{Bool, true, false, not, _||_}
+use mathlib.Core.List.{List}
 use lib.Dec.{eqb, eqb·suc-zero}
 use borrow.Author.Tests.{eqb-true, eq-eqb, not-true}
 use Rattle.chart.specs.declared.Stroke.{Stroke}
 use Rattle.chart.specs.declared.Triple.{Triple}
 use Rattle.rules.specs.Lists.{any}
 use Rattle.rules.specs.Records.{Levels}
-use Rattle.rules.specs.Refusals.{refuse, aboveOne, badPrices, wrongStroke, wrongTriple, badLevels}
+use Rattle.rules.specs.Refusals.{refuse, aboveOne, wrongBytes, badPrices, wrongStroke, wrongTriple, badLevels}
 use Rattle.rules.specs.Machine.{withStrokes, withSegments, withBigs, withSuperiors}
 use Rattle.rules.specs.File.{
+  Kind,
+  ST,
+  SR,
+  SG,
+  BG,
+  SU,
+  BR,
   Record,
   stroke,
   segment,
   big,
   superior,
   bar,
+  strokeIn,
+  recordIn,
   Content,
   nothing,
   append,
   fieldRefusal,
   recordsOf,
 }
-use Rattle.laws.proofs.Tests.{none-of-four}
+use Rattle.laws.proofs.Tests.{or-l, or-r, none-of-four}
 use Rattle.laws.proofs.Lists.{All, nil, cons, all-append, all-image, any-false, false-any}
 
 -- ---- a property of every record of the levels
@@ -92,7 +102,7 @@ module _ (p : Record → Bool) (c : Levels) where
         false-any (λ (t : Triple). p (superior t)) (e .superiors),
       )
 
--- ---- a record with a direction above 1 or a price that isn't one
+-- ---- a record with a direction or a roll byte above 1, or a price that isn't one
 
 unfoldable pub wrong : Record → Bool
 wrong (stroke s) = wrongStroke s
@@ -101,28 +111,54 @@ wrong (big t) = wrongTriple t
 wrong (superior t) = wrongTriple t
 wrong (bar bytes) = false
 
+-- the roll byte, which no field of a file has: the mark tells it, 0 or 1
+unfoldable pub rollOf : Record → ℕ
+rollOf (stroke s) = s .roll
+rollOf (segment t) = 0
+rollOf (big t) = 0
+rollOf (superior t) = 0
+rollOf (bar bytes) = 0
+
+pub roll-told : (k : Kind) (bytes : List ℕ) → aboveOne (rollOf (recordIn k bytes)) ≡ false
+unfolding rollOf recordIn strokeIn
+roll-told ST bytes = refl
+roll-told SR bytes = refl
+roll-told SG bytes = refl
+roll-told BG bytes = refl
+roll-told SU bytes = refl
+roll-told BR bytes = refl
+
+roll-right : (r : Record) → wrong r ≡ false → aboveOne (rollOf r) ≡ false
+unfolding rollOf wrong wrongStroke wrongBytes
+roll-right (stroke s) e = or-r (aboveOne (s .direction)) (aboveOne (s .roll)) (or-l (wrongBytes s) (badPrices s) e)
+roll-right (segment t) e = refl
+roll-right (big t) e = refl
+roll-right (superior t) e = refl
+roll-right (bar bytes) e = refl
+
 refuse-one : (b : Bool) (n : ℕ) → eqb (refuse b (suc n) 0) 0 ≡ not b
 unfolding refuse
 refuse-one true n = eqb·suc-zero n
 refuse-one false n = refl
 
-wrong-is : (r : Record) → eqb (fieldRefusal r) 0 ≡ not (wrong r)
-unfolding fieldRefusal wrong wrongStroke refuse
-wrong-is (stroke s) = go (aboveOne (s .direction)) (badPrices s)
+-- where its mark tells the roll byte, its fields' refusal is that it is wrong
+wrong-is : (r : Record) → aboveOne (rollOf r) ≡ false → eqb (fieldRefusal r) 0 ≡ not (wrong r)
+unfolding rollOf fieldRefusal wrong wrongStroke wrongBytes refuse
+wrong-is (stroke s) told = rw told (go (aboveOne (s .direction)) (badPrices s))
   where
-    go : (a b : Bool) → eqb (refuse a 2 (refuse b 1 0)) 0 ≡ not (a || b)
+    go : (a b : Bool) → eqb (refuse a 2 (refuse b 1 0)) 0 ≡ not (a || false || b)
     go true b = refuse-one true 1
     go false b = refuse-one b 0
-wrong-is (segment t) = refuse-one (aboveOne (t .direction)) 1
-wrong-is (big t) = refuse-one (aboveOne (t .direction)) 1
-wrong-is (superior t) = refuse-one (aboveOne (t .direction)) 1
-wrong-is (bar bytes) = refl
+wrong-is (segment t) told = refuse-one (aboveOne (t .direction)) 1
+wrong-is (big t) told = refuse-one (aboveOne (t .direction)) 1
+wrong-is (superior t) told = refuse-one (aboveOne (t .direction)) 1
+wrong-is (bar bytes) told = refl
 
 pub right-of : (r : Record) → wrong r ≡ false → fieldRefusal r ≡ 0
-right-of r e = eqb-true (fieldRefusal r) 0 (wrong-is r ∙ ap not e)
+right-of r e = eqb-true (fieldRefusal r) 0 (wrong-is r (roll-right r e) ∙ ap not e)
 
-pub not-wrong : (r : Record) → fieldRefusal r ≡ 0 → wrong r ≡ false
-not-wrong r e = not-true (wrong r) (sym (wrong-is r) ∙ eq-eqb (fieldRefusal r) 0 e)
+pub not-wrong : (r : Record) → aboveOne (rollOf r) ≡ false → fieldRefusal r ≡ 0 → wrong r ≡ false
+not-wrong r told e = not-true (wrong r) (sym (wrong-is r told) ∙ eq-eqb (fieldRefusal r) 0 e)
 
 -- no record is wrong where the levels are not bad, and only there
 module _ (c : Levels) where

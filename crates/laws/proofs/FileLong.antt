@@ -24,7 +24,7 @@ use Rattle.rules.specs.File.{
   written,
 }
 use Rattle.laws.proofs.Lists.{each-append}
-use Rattle.laws.proofs.FileBytes.{length-record}
+use Rattle.laws.proofs.FileBytes.{length-record, length-stroke}
 
 -- ---- how many bytes
 
@@ -54,7 +54,7 @@ length-written c =
       length-append (each recordBytes s ++ each recordBytes g ++ each recordBytes b) (each recordBytes u),
       length-append (each recordBytes s ++ each recordBytes g) (each recordBytes b),
       length-append (each recordBytes s) (each recordBytes g),
-      length-level stroke 23 (λ x. length-record (stroke x) tt) (c .strokes),
+      length-level stroke 23 length-stroke (c .strokes),
       length-level segment 7 (λ x. length-record (segment x) tt) (c .segments),
       length-level big 7 (λ x. length-record (big x) tt) (c .bigs),
       length-level superior 7 (λ x. length-record (superior x) tt) (c .superiors),
@@ -73,9 +73,9 @@ pub triple-in : (xs ys : List ℕ) → 5 ≤ length xs → tripleIn (xs ++ ys) �
 unfolding tripleIn
 triple-in xs ys h = rw (number-in 0 1 xs ys (omega arith), number-in 1 2 xs ys (omega arith), number-in 3 2 xs ys h)
 
-pub stroke-in : (xs ys : List ℕ) → 21 ≤ length xs → strokeIn (xs ++ ys) ≡ strokeIn xs
+pub stroke-in : (roll : ℕ) (xs ys : List ℕ) → 21 ≤ length xs → strokeIn roll (xs ++ ys) ≡ strokeIn roll xs
 unfolding strokeIn price
-stroke-in xs ys h =
+stroke-in roll xs ys h =
     rw (
       number-in 0 1 xs ys (omega arith),
       number-in 1 2 xs ys (omega arith),

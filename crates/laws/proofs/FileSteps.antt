@@ -3,19 +3,21 @@ use Prim.Native.Nat.{ℕ, zero, suc, _+_, _≤_, _<_}
 use native.Mathlib.Omega.{arith}
 use native.Mathlib.Nat.{zero-add}
 use mathlib.Core.Path.{_≡_, refl, sym, ap, _∙_, subst}
-use mathlib.Core.Bool.{Bool, true, false}
+use mathlib.Core.Bool.{Bool, true, false, cond}
 use mathlib.Core.List.{List, [], _∷_, _++_}
 use mathlib.Core.Option.{Option, none, some}
 use lib.ListN.{length, getD, drop, length-drop, drop-of-length-le}
 use lib.Seq.{drop-cons, drop-drop}
-use lib.Dec.{ltb}
+use lib.Dec.{eqb, ltb}
 use borrow.Author.Tests.{ltb-false, le-ltb, lt-ltb}
+use Rattle.chart.specs.declared.Stroke.{Stroke}
 use Rattle.rules.specs.Text.{ascii}
 use Rattle.rules.specs.Refusals.{refuse}
 use Rattle.rules.specs.Answer.{AnswerBy, Answer, refused, given, NumberAt, answered}
 use Rattle.rules.specs.File.{
   Kind,
   ST,
+  SR,
   SG,
   BG,
   SU,
@@ -25,8 +27,10 @@ use Rattle.rules.specs.File.{
   isMark,
   kindOf,
   kind,
+  strokeIn,
   recordIn,
   Record,
+  stroke,
   Content,
   nothing,
   append,
@@ -42,6 +46,15 @@ pub refused-given : {R A : Type 0} {k : R} {a : A} → refused k ≡ given a →
 refused-given e = let z : _≡_ {A = ℕ} 0 1 = cc in omega arith
 
 -- ---- a record
+
+-- a stroke has one of two marks
+pub stroke-kind : {A : Type 0} (f : Kind → A) (x : A) → f ST ≡ x → f SR ≡ x → (s : Stroke) → f (kind (stroke s)) ≡ x
+unfolding kind
+stroke-kind f x st sr s = go (eqb (s .roll) 1)
+  where
+    go : (b : Bool) → f (cond b SR ST) ≡ x
+    go true = sr
+    go false = st
 
 -- what the bytes behind two others are read as, by the kind that those two mark
 unfoldable pub readBehind : (Kind → Bool) → List ℕ → Option Kind → Answer Record
@@ -60,6 +73,7 @@ read-two fullOf a b bytes = go (kindOf a b) refl
 pub read-known : (fullOf : Kind → Bool) (k : Kind) (bytes : List ℕ) → readRecord fullOf (markOf k ++ bytes) ≡ readBehind fullOf bytes (some k)
 unfolding readRecord readBehind kindOf isMark markOf ascii
 read-known fullOf ST bytes = refl
+read-known fullOf SR bytes = refl
 read-known fullOf SG bytes = refl
 read-known fullOf BG bytes = refl
 read-known fullOf SU bytes = refl
@@ -93,8 +107,9 @@ pub record Accepted (fullOf : Kind → Bool) (bytes : List ℕ) (r : Record) : T
   pub same : recordIn (kind r) (drop 2 bytes) ≡ r
 
 kind-in : (k : Kind) (bytes : List ℕ) → kind (recordIn k bytes) ≡ k
-unfolding kind recordIn
+unfolding kind recordIn strokeIn
 kind-in ST bytes = refl
+kind-in SR bytes = refl
 kind-in SG bytes = refl
 kind-in BG bytes = refl
 kind-in SU bytes = refl

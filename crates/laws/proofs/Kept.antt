@@ -13,7 +13,7 @@ use Rattle.chart.specs.declared.Triple.{Triple}
 use Rattle.rules.specs.Lists.{isEmpty}
 use Rattle.rules.specs.Records.{Levels}
 use Rattle.rules.specs.Classes.{segmentItem, bigItem, segmentClasses, bigClasses}
-use Rattle.rules.specs.Refusals.{refuse, aboveOne, badPrices, badStroke, unjoined, badTriple, outside, wrongStroke, wrongTriple, strokeRefusal}
+use Rattle.rules.specs.Refusals.{refuse, aboveOne, wrongBytes, badPrices, badStroke, unjoined, badTriple, outside, wrongStroke, wrongTriple, strokeRefusal}
 use Rattle.rules.specs.Refusals.{tripleRefusal, held, withdrawRefusal, deriveRefusal}
 use Rattle.rules.specs.Machine.{Call, addStroke, addSegment, addBig, addSuperior, lengthen, withdraw, deriveBigs, deriveSuperiors, refusal, stepped}
 use Rattle.rules.specs.Machine.{withStrokes, withSegments, withBigs, withSuperiors, withdrawn, asTriple}
@@ -30,18 +30,18 @@ stroke-more ss s o h =
     let r14 = refuse (unjoined (getLast? ss) s) 14 0 in
     let r4 = refuse (badStroke s) 4 r14 in
     let r1 = refuse (badPrices s) 1 r4 in
-    let r2 = refuse (aboveOne (s .direction)) 2 r1 in
+    let r2 = refuse (wrongBytes s) 2 r1 in
     let h2 = refuse-on (leb 512 (length ss)) 2 r2 h in
-    let h1 = refuse-on (aboveOne (s .direction)) 1 r1 h2 in
+    let h1 = refuse-on (wrongBytes s) 1 r1 h2 in
     let h4 = refuse-on (badPrices s) 0 r4 h1 in
     let h14 = refuse-on (badStroke s) 3 r14 h4 in
     let full = leb-false 512 (length ss) (refuse-no (leb 512 (length ss)) 2 r2 h) in
-    let way = refuse-no (aboveOne (s .direction)) 1 r1 h2 in
+    let bytes = refuse-no (wrongBytes s) 1 r1 h2 in
     let prices = refuse-no (badPrices s) 0 r4 h1 in
     let b = refuse-no (badStroke s) 3 r14 h4 in
     let u = refuse-no (unjoined (getLast? ss) s) 13 0 h14 in
     record {
-      right = any-snoc wrongStroke ss s (o .right) (or-i (aboveOne (s .direction)) (badPrices s) way prices);
+      right = any-snoc wrongStroke ss s (o .right) (or-i (wrongBytes s) (badPrices s) bytes prices);
       joined = stroke-added none ss s (o .joined) b (rw (last-is ss) at u);
       fit = omega (arith, length-snoc ss s);
     }

@@ -17,7 +17,7 @@ use Rattle.price.proofs.Order.{keys, tests, lower-price, higher-price}
 use Rattle.rules.specs.Lists.{andThen}
 use Rattle.rules.specs.Records.{Levels}
 use Rattle.rules.specs.Ranges.{firstStroke, lastStroke, spanned, rangeOf}
-use Rattle.rules.specs.Refusals.{aboveOne, badPrices, wrongStroke, badLevels, brokenLevels}
+use Rattle.rules.specs.Refusals.{wrongBytes, badPrices, wrongStroke, badLevels, brokenLevels}
 use Rattle.laws.proofs.Tests.{none-some, or-l, or-r}
 use Rattle.laws.proofs.Lists.{any-at, lt-at, then-some}
 use Rattle.laws.proofs.Ordered.{unbroken, strokes-right}
@@ -36,7 +36,7 @@ unfolding wrongStroke badPrices
 right-priced s h =
     let a = not (isPrice (s .«start_price»)) in
     let b = not (isPrice (s .«end_price»)) in
-    let k = or-r (aboveOne (s .direction)) (a || b) h in
+    let k = or-r (wrongBytes s) (a || b) h in
     record { start = not-false (isPrice (s .«start_price»)) (or-l a b k); end = not-false (isPrice (s .«end_price»)) (or-r a b k) }
 
 pub stroke-priced : (c : Levels) → badLevels c ≡ false → (i : ℕ) (s : Stroke) → getElem? (c .strokes) i ≡ some s → Priced s

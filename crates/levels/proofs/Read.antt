@@ -26,7 +26,7 @@ abbrev pub no-triple : Triple
 no-triple = record { direction = 0; first = 0; last = 0 }
 
 abbrev pub no-stroke : Stroke
-no-stroke = record { direction = 0; «start_bar» = 0; «end_bar» = 0; «start_price» = nan; «end_price» = nan }
+no-stroke = record { direction = 0; roll = 0; «start_bar» = 0; «end_bar» = 0; «start_price» = nan; «end_price» = nan }
 
 -- a count above an array's size takes the whole array
 pub clipped : {A : Type 0} (n k : ℕ) (l : List A) → length l ≡ k → take (min n k) l ≡ take n l

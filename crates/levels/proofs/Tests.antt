@@ -1,17 +1,17 @@
 -- Laws of refusal 21: a test on what is left of a level, and the tests on a chart put together. Assumes nothing.
 use Prim.Native.Nat.{ℕ, _+_, _<_, _≤_}
-use mathlib.Core.Path.{_≡_, refl, sym, subst, _∙_}
-use mathlib.Core.Bool.{Bool, true, false, _&&_, _||_, or-true, or-false, or-assoc, false≢true}
+use mathlib.Core.Path.{_≡_, refl, sym, _∙_}
+use mathlib.Core.Bool.{Bool, true, false, not, _&&_, _||_, or-true, or-false, or-assoc, false≢true}
 use mathlib.Core.List.{List}
 use lib.ListN.{length, getD, take, drop}
-use lib.Dec.{T, leb, ltb, leb→le}
-use borrow.Author.Tests.{le-ltb}
+use lib.Dec.{ltb}
+use borrow.Author.Tests.{le-ltb, not-true}
 use Rattle.chart.specs.declared.Stroke.{Stroke}
 use Rattle.chart.specs.declared.Chart.{Chart}
 use Rattle.price.specs.Price.{isPrice}
 use Rattle.rules.specs.Lists.{any}
 use Rattle.rules.specs.Records.{levelsOf}
-use Rattle.rules.specs.Refusals.{wrongStroke, wrongTriple, badPrices, overfull, badLevels, badChart}
+use Rattle.rules.specs.Refusals.{wrongBytes, wrongStroke, wrongTriple, badPrices, overfull, badLevels, badChart}
 use Rattle.laws.proofs.Answers.{Counted}
 use Rattle.laws.proofs.Answers as laws
 use Rattle.laws.proofs.Arrays.{left-more, left-none}
@@ -48,15 +48,15 @@ pub plain-prices : (s : Stroke) → (isPrice (s .«start_price») ≡ true) × (
 unfolding badPrices
 plain-prices s two = rw (two .0, two .1)
 
-pub right-stroke : (s : Stroke) → s .direction ≤ 1 → badPrices s ≡ false → wrongStroke s ≡ false
-unfolding wrongStroke
-right-stroke s way prices = rw (le-ltb 1 (s .direction) way, prices)
+pub right-stroke : (s : Stroke) → s .direction ≤ 1 → s .roll ≤ 1 → badPrices s ≡ false → wrongStroke s ≡ false
+unfolding wrongStroke wrongBytes
+right-stroke s way roll prices = rw (le-ltb 1 (s .direction) way, le-ltb 1 (s .roll) roll, prices)
 
--- p is a test of its prices that only prices pass
-pub right-by-test : (s : Stroke) (p : Bool) → (p ≡ true → badPrices s ≡ false) → (leb (s .direction) 1 && p) ≡ true → wrongStroke s ≡ false
-right-by-test s p prices h =
-    let two = both (leb (s .direction) 1) p h in
-    right-stroke s (leb→le _ _ (subst T (sym (two .0)) tt)) (prices (two .1))
+-- w is whether a byte is wrong, and p a test of its prices that only prices pass
+pub right-by-test :
+    (s : Stroke) (w p : Bool) → w ≡ wrongBytes s → (p ≡ true → badPrices s ≡ false) → (not w && p) ≡ true → wrongStroke s ≡ false
+unfolding wrongStroke
+right-by-test s w p bytes prices h = let two = both (not w) p h in rw (← bytes, not-true w (two .0), prices (two .1))
 
 -- ---- a chart
 

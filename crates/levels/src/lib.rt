@@ -16,17 +16,24 @@ ghost use Rattle.rules.specs.Records.{levelsOf};
 ghost use Rattle.rules.specs.Ranges.{spanned, rangeOf, endPoint};
 ghost use Rattle.rules.specs.Answer.{rangeAnswer, endPointAnswer};
 ghost use Rattle.rules.specs.Calls.{rangeCall, endPointCall};
-ghost use Rattle.rules.specs.Refusals.{badPrices, wrongStroke, wrongTriple, badChart};
+ghost use Rattle.rules.specs.Refusals.{wrongBytes, badPrices, wrongStroke, wrongTriple, badChart};
 ghost use Rattle.chart.specs.Table.{pointOf};
 ghost use Rattle.levels.specs.Read.{SafeIndex, rangeFrom};
 
 // ---- refusal 21
 
-// Whether a stroke has a direction above 1 or a price that isn't one.
+// Whether a stroke has a direction or a roll byte above 1.
+pub fn wrong_bytes(s: Stroke) -> bool
+    ensures { λ r. ⌜ r ≡ wrongBytes s ⌝ }
+{
+    (1 < s.direction) | (1 < s.roll)
+}
+
+// Whether it has such a byte or a price that isn't one.
 fn wrong_stroke(s: Stroke) -> bool
     ensures { λ r. ⌜ r ≡ wrongStroke s ⌝ }
 {
-    (1 < s.direction) | price::wrong_prices(s.start_price, s.end_price)
+    wrong_bytes(s) | price::wrong_prices(s.start_price, s.end_price)
 }
 
 // Whether the product of a stroke's prices shows that both are prices. It has no branch, so that a loop tests several strokes at a time.
@@ -36,11 +43,11 @@ pub fn plain_prices(s: Stroke) -> bool
     price::plain_product(s.start_price, s.end_price)
 }
 
-// Whether its direction and the product of its prices show that a stroke is right.
+// Whether its bytes and the product of its prices show that a stroke is right.
 fn plain_stroke(s: Stroke) -> bool
     ensures { λ r. ⌜ (r ≡ true → wrongStroke s ≡ false) ⌝ }
 {
-    (s.direction <= 1) & plain_prices(s)
+    !wrong_bytes(s) & plain_prices(s)
 }
 
 // Whether one of the first n triples has a direction above 1. Every one is looked at, with no test that ends the loop, so that several can be

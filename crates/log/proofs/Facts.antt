@@ -10,13 +10,13 @@ use Rattle.rules.specs.Answer.{AnswerBy, refused, given}
 use Rattle.rules.specs.Text.{ascii}
 use Rattle.rules.specs.Machine.{Call, addStroke, addSegment, addBig, addSuperior, lengthen, withdraw, deriveBigs, deriveSuperiors}
 use Rattle.rules.proofs.Computing.{everything}
-use Rattle.rules.proofs.Charts.{price, minusZero, triple}
+use Rattle.rules.proofs.Charts.{price, minusZero, triple, withRoll, rolled}
 use Rattle.rules.proofs.MachineFacts.{priced}
 use Rattle.log.specs.Log.{Entry, call, bar, forms, formOf, counted, good, formAt, inFront, spelledFrom, spelled, callsIn, barsIn}
 
--- a stroke from bar 258 to 5 with the bits of its prices
+-- a stroke from bar 258 to 5 with the bits of its prices, not rolled
 abbrev strokeCall : ℕ → ℕ → List ℕ
-strokeCall p q = ascii "S" ++ (1 ∷ 2 ∷ 1 ∷ 5 ∷ 0 ∷ []) ++ bytesOf 8 p ++ bytesOf 8 q
+strokeCall p q = ascii "S" ++ (1 ∷ 2 ∷ 1 ∷ 5 ∷ 0 ∷ []) ++ bytesOf 8 p ++ bytesOf 8 q ++ (0 ∷ [])
 
 -- direction 1, first 258, last 772
 abbrev fields : List ℕ
@@ -40,8 +40,15 @@ pub record Facts : Type 0 where
   pub nothing : spelled [] ≡ given []
   -- each kind of call
   pub stroke :
-      spelled (83 ∷ 1 ∷ 2 ∷ 1 ∷ 5 ∷ 0 ∷ 0 ∷ 0 ∷ 0 ∷ 0 ∷ 0 ∷ 0 ∷ 0x3A ∷ 0x40 ∷ 0 ∷ 0 ∷ 0 ∷ 0 ∷ 0 ∷ 0 ∷ 0xF0 ∷ 0x3F ∷ [])
+      spelled (83 ∷ 1 ∷ 2 ∷ 1 ∷ 5 ∷ 0 ∷ 0 ∷ 0 ∷ 0 ∷ 0 ∷ 0 ∷ 0 ∷ 0x3A ∷ 0x40 ∷ 0 ∷ 0 ∷ 0 ∷ 0 ∷ 0 ∷ 0 ∷ 0xF0 ∷ 0x3F ∷ 0 ∷ [])
       ≡ only (addStroke (priced 1 258 5 (price 26) (price 1)))
+  -- its last byte is the roll byte, whatever it is
+  pub rolled-stroke :
+      spelled (83 ∷ 1 ∷ 2 ∷ 1 ∷ 5 ∷ 0 ∷ 0 ∷ 0 ∷ 0 ∷ 0 ∷ 0 ∷ 0 ∷ 0x3A ∷ 0x40 ∷ 0 ∷ 0 ∷ 0 ∷ 0 ∷ 0 ∷ 0 ∷ 0xF0 ∷ 0x3F ∷ 1 ∷ [])
+      ≡ only (addStroke (rolled (priced 1 258 5 (price 26) (price 1))))
+  pub roll-byte-255 :
+      spelled (take 22 (strokeCall 0 0) ++ (255 ∷ []) ++ ascii "W" ++ (3 ∷ []))
+      ≡ given (call (addStroke (withRoll 255 (priced 1 258 5 (price 0) (price 0)))) ∷ call (withdraw 3) ∷ [])
   pub segment : spelled (71 ∷ 1 ∷ 2 ∷ 1 ∷ 4 ∷ 3 ∷ []) ≡ only (addSegment (triple 1 258 772))
   pub big : spelled (ascii "B" ++ fields) ≡ only (addBig (triple 1 258 772))
   pub superior : spelled (ascii "U" ++ fields) ≡ only (addSuperior (triple 1 258 772))
@@ -89,7 +96,7 @@ pub record Facts : Type 0 where
   -- a field may be spelled like a letter
   pub letters-in-fields : spelled (ascii "WWEEDG") ≡ given (call (withdraw 87) ∷ call (deriveSuperiors 69) ∷ call (deriveBigs 71) ∷ [])
   -- cut at the last byte
-  pub stroke-cut : spelled (take 21 (strokeCall 0 0)) ≡ refused 0
+  pub stroke-cut : spelled (take 22 (strokeCall 0 0)) ≡ refused 0
   pub triple-cut : spelled (ascii "W" ++ (0 ∷ []) ++ ascii "U" ++ take 4 fields) ≡ refused 2
   pub lengthen-cut : spelled (ascii "G" ++ fields ++ ascii "L" ++ (2 ∷ [])) ≡ refused 6
   pub bar-cut : spelled (ascii "D" ++ (1 ∷ []) ++ take 16 (barEntry 0 0)) ≡ refused 2
@@ -118,6 +125,8 @@ facts =
     record {
       nothing = refl;
       stroke = refl;
+      rolled-stroke = refl;
+      roll-byte-255 = refl;
       segment = refl;
       big = refl;
       superior = refl;

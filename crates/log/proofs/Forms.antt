@@ -1,12 +1,16 @@
 -- The form of an entry by its letter. Assumes nothing.
 use Prim.Native.Nat.{ℕ, _≤_}
-use mathlib.Core.Path.{_≡_}
+use mathlib.Core.Path.{_≡_, sym, ap, _∙_}
 use mathlib.Core.List.{List}
 use mathlib.Core.Option.{none}
+use lib.ListN.{length, getD}
 use lib.Dec.{eqb}
 use borrow.Author.Tests.{ne-eqb}
+use Rattle.chart.specs.declared.Stroke.{Stroke}
 use Rattle.rules.specs.Text.{ascii}
+use Rattle.rules.specs.File.{number, strokeIn}
 use Rattle.laws.proofs.Lists.{nil, cons, find-none}
+use Rattle.laws.proofs.FileCode.{one-at}
 use Rattle.log.specs.Log.{Form, forms, formOf}
 use Rattle.log.specs.Entries.{widthBy, entryBy}
 
@@ -27,6 +31,10 @@ no-form a s g b u l w d e q =
 pub no-entry : (a : ℕ) → formOf a ≡ none → (s : List ℕ) → none ≡ entryBy (formOf a) s
 unfolding entryBy
 no-entry a e s = rw e
+
+-- the last field of a stroke
+pub rolled-in : (s : List ℕ) (t : Stroke) → 22 ≤ length s → t ≡ strokeIn (getD s 21 0) s → t ≡ strokeIn (number 21 1 s) s
+rolled-in s t h e = e ∙ ap (λ (r : ℕ). strokeIn r s) (sym (one-at s 21 h))
 
 -- a letter that is known, as the code's tests have it
 module _ (a b : ℕ) (e : a ≡ b) where

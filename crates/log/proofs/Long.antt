@@ -10,7 +10,8 @@ use lib.Seq.{take-all, length-take-le}
 use lib.Dec.{leb}
 use lib.Ieee.{binary64, ofBits}
 use borrow.Author.Tests.{le-leb, leb-true, leb-false}
-use Rattle.rules.specs.File.{price}
+use Rattle.chart.specs.declared.Stroke.{Stroke}
+use Rattle.rules.specs.File.{number, price, strokeIn}
 use Rattle.rules.specs.Machine.{addStroke, addSegment, addBig, addSuperior, lengthen, withdraw, deriveBigs, deriveSuperiors}
 use Rattle.laws.proofs.Lists.{All, nil, cons, all-find}
 use Rattle.laws.proofs.FileLong.{number-in, triple-in, stroke-in}
@@ -28,10 +29,16 @@ price-in from xs ys h = ap (ofBits binary64) (number-in from 8 xs ys h)
 bar-in : (xs ys : List ℕ) → 16 ≤ length xs → bar (price 0 (xs ++ ys)) (price 8 (xs ++ ys)) ≡ bar (price 0 xs) (price 8 xs)
 bar-in xs ys h = rw (price-in 0 xs ys (omega arith), price-in 8 xs ys h)
 
+stroke-decided :
+    (xs ys : List ℕ) → 22 ≤ length xs
+    → call (addStroke (strokeIn (number 21 1 (xs ++ ys)) (xs ++ ys))) ≡ call (addStroke (strokeIn (number 21 1 xs) xs))
+stroke-decided xs ys h =
+    rw (number-in 21 1 xs ys h) (ap (λ (s : Stroke). call (addStroke s)) (stroke-in (number 21 1 xs) xs ys (omega arith)))
+
 all-decided : All Decided forms
 unfolding forms
 all-decided =
-    cons (λ xs ys h. ap call (ap addStroke (stroke-in xs ys h)))
+    cons stroke-decided
     (cons (λ xs ys h. ap call (ap addSegment (triple-in xs ys h)))
     (cons (λ xs ys h. ap call (ap addBig (triple-in xs ys h)))
     (cons (λ xs ys h. ap call (ap addSuperior (triple-in xs ys h)))

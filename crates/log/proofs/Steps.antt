@@ -272,7 +272,7 @@ some-byte n = omega arith
 all-wide : All (λ (f : Form). 1 ≤ f .width) forms
 unfolding forms
 all-wide =
-    cons (some-byte 20)
+    cons (some-byte 21)
     (cons (some-byte 4)
     (cons (some-byte 4)
     (cons (some-byte 4)

@@ -29,10 +29,10 @@ pub record Form : Type 0 where
 abbrev pub form : String → ℕ → (List ℕ → Entry) → Form
 form letter width entry = record { letter = getD (ascii letter) 0 0; width = width; entry = entry }
 
--- Fields are in the order of the call's arguments. A price is the value with the 64 bits, whatever they are
+-- Fields are in the order of the call's arguments; a stroke's roll byte is the last. A price is the value with the 64 bits, whatever they are
 unfoldable pub forms : List Form
 forms =
-    form "S" 21 (λ (fields : List ℕ). call (addStroke (strokeIn fields)))
+    form "S" 22 (λ (fields : List ℕ). call (addStroke (strokeIn (number 21 1 fields) fields)))
     ∷ form "G" 5 (λ (fields : List ℕ). call (addSegment (tripleIn fields)))
     ∷ form "B" 5 (λ (fields : List ℕ). call (addBig (tripleIn fields)))
     ∷ form "U" 5 (λ (fields : List ℕ). call (addSuperior (tripleIn fields)))

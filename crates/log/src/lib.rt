@@ -32,7 +32,7 @@ fn width_of(letter: u8) -> usize
     ensures { λ r. ⌜ r ≡ widthBy (formOf letter) ⌝ }
 {
     match letter {
-        b'S' => 21,
+        b'S' => 22,
         b'G' | b'B' | b'U' => 5,
         b'L' => 2,
         b'W' => 1,
@@ -49,7 +49,7 @@ fn entry_in(letter: u8, s: &[u8]) -> LogEntry
     ensures { λ r. ⌜ entryOf r ≡ entryBy (formOf letter) (now (s .entry)) ⌝ }
 {
     match letter {
-        b'S' => LogEntry::Call(Call::Stroke(fields::stroke_in(s))),
+        b'S' => LogEntry::Call(Call::Stroke(fields::stroke_in(s, s[21]))),
         b'G' => LogEntry::Call(Call::Segment(fields::triple_in(s))),
         b'B' => LogEntry::Call(Call::Big(fields::triple_in(s))),
         b'U' => LogEntry::Call(Call::Superior(fields::triple_in(s))),

@@ -5,7 +5,7 @@ use mathlib.Core.Path.{_≡_, refl, sym, ap, subst, _∙_}
 use mathlib.Core.Bool.{true, false}
 use mathlib.Core.List.{List, [], _∷_, _++_, map}
 use native.Mathlib.Omega.{arith}
-use lib.ListN.{length, take, drop}
+use lib.ListN.{length, take, drop, set}
 use lib.Ieee.{nan}
 use lib.Seq.{take-length}
 use borrow.Author.Tests.{le-ltb, ne-eqb}
@@ -16,7 +16,7 @@ use Rattle.chart.specs.declared.NMark.{NMark}
 use Rattle.rules.specs.Answer.{refused, answered, rowsAnswer}
 use Rattle.rules.specs.Records.{Levels, levelsOf, Quotes}
 use Rattle.rules.specs.Zones.{overlapZones, zonesFrom}
-use Rattle.rules.specs.Refusals.{overfull}
+use Rattle.rules.specs.Refusals.{overfull, keptZones}
 use Rattle.rules.specs.Calls.{thirdCall, nCall}
 use Rattle.rules.specs.Machine.{
   Call,
@@ -44,8 +44,11 @@ use Rattle.rules.proofs.Charts.{
   turn,
   triple,
   stroke,
+  rolled,
   strokesOf,
   one-each,
+  levels,
+  zone,
   quoted,
   zoneThird,
   anchorThird,
@@ -234,6 +237,33 @@ built =
       third-inside = refl;
     }
 
+-- ---- K with a roll: its second stroke starts at 25, where the first ended at 20. Calls that are all accepted, a zone over the rolled stroke, marks
+
+abbrev rolledStrokes : List Stroke
+rolledStrokes = set (K .strokes) 1 (rolled (stroke 0 (turn 5 25) (turn 9 14)))
+
+abbrev rolling : List Asked
+rolling =
+    accepted
+    (map addStroke rolledStrokes ++ map addSegment (K .segments) ++ map addBig (K .bigs) ++ map addSuperior (K .superiors))
+
+record Rolled : Type 0 where
+  by : Way rolling
+  -- the byte is remembered, and without it the prices don't meet
+  strokes : levelsIn (by .left) .strokes ≡ rolledStrokes
+  jump : refusal (levels (take 1 rolledStrokes) [] [] []) (addStroke (stroke 0 (turn 5 25) (turn 9 14))) ≡ 14
+  zone-there : keptZones (dataOf (by .left)) ≡ zone 0 5 18 16 24 14 25 1 2 ∷ []
+  third : rowsAnswer 0 1 (zoneThird true 29 26 24 ∷ []) ≡ thirdCall (by .left .chart) (barsK 26)
+  three-n : rowsAnswer 0 2 (mark true 0 29 26 ∷ mark true 1 38 19 ∷ []) ≡ nCall (by .left .chart) (barsK 26)
+
+rolled-k : Rolled
+unfolding everything liveOf way
+rolled-k = record { by = way rolling refl; strokes = refl; jump = refl; zone-there = refl; third = refl; three-n = refl }
+
+-- the promise speaks of it
+rolled-promised : Promise (callsIn rolling) (numbersIn rolling) (rolled-k .by .left)
+rolled-promised = promise _ _ _ _ (rolled-k .by .nothing) (rolled-k .by .chain)
+
 -- ---- every kind of call, refused ones among them with each number but 3 (a full level) and 21; marks of both sides, on zones and on an anchor, one of
 -- order 2. Numbers, records and rows are those of 01 and of the reference
 
@@ -253,7 +283,7 @@ bigs12 = drop 3 segments12
 
 abbrev withMinusZero : Stroke
 withMinusZero =
-    record { direction = 0; «start_bar» = 12; «end_bar» = 13; «start_price» = price 7; «end_price» = minusZero }
+    record { direction = 0; roll = 0; «start_bar» = 12; «end_bar» = 13; «start_price» = price 7; «end_price» = minusZero }
 
 abbrev mixing : List Asked
 mixing =

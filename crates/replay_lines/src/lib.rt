@@ -24,7 +24,8 @@ fn print_stroke(s: Stroke) {
     printing::print_number(s.start_bar);
     printing::print_number(s.end_bar);
     printing::print_price(s.start_price);
-    io::write_all(1, &printing::hex_of(s.end_price));
+    printing::print_price(s.end_price);
+    io::print_decimal(1, s.roll as u64);
     io::write_all(1, b"\n");
 }
 

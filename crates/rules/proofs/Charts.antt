@@ -42,11 +42,27 @@ abbrev pub stroke : ℕ → Turn → Turn → Stroke
 stroke d a b =
     record {
       direction = d;
+      roll = 0;
       «start_bar» = a .bar;
       «end_bar» = b .bar;
       «start_price» = price (a .value);
       «end_price» = price (b .value);
     }
+
+-- a stroke with another roll byte
+abbrev pub withRoll : ℕ → Stroke → Stroke
+withRoll r s =
+    record {
+      direction = s .direction;
+      roll = r;
+      «start_bar» = s .«start_bar»;
+      «end_bar» = s .«end_bar»;
+      «start_price» = s .«start_price»;
+      «end_price» = s .«end_price»;
+    }
+
+abbrev pub rolled : Stroke → Stroke
+rolled s = withRoll 1 s
 
 abbrev pub otherWay : ℕ → ℕ
 otherWay zero = 1

@@ -48,7 +48,7 @@ unfolding records.levelsOf
     barsFile.barsWritten barsFile.writeBarsRefusal barsFile.writeBarsCall barsFile.barsBufferAfter
     program.marksOf program.printedBars program.printed program.chartRead program.marksOutput
     text.ascii text.decimalWithin text.decimal text.hexDigit text.hex text.markLine text.marksText text.refusedLine
-    refusals.refuse refusals.badPrices refusals.badStroke refusals.unjoined refusals.badTriple refusals.overfull refusals.wrongStroke
+    refusals.refuse refusals.wrongBytes refusals.badPrices refusals.badStroke refusals.unmet refusals.unjoined refusals.badTriple refusals.overfull refusals.wrongStroke
     refusals.badLevels refusals.badChart refusals.brokenStrokes refusals.brokenTriples refusals.brokenLevels refusals.samePrice
     refusals.sameZone refusals.sameZones refusals.badLive refusals.strokeRefusal refusals.tripleRefusal refusals.lengthenRefusal
     refusals.held refusals.withdrawRefusal refusals.deriveRefusal refusals.zonesRefusal refusals.unequal refusals.badSlices

@@ -6,6 +6,7 @@ pub mod MachineFacts
 pub mod LiveFacts
 pub mod CallFacts
 pub mod FileFacts
+pub mod RollFacts
 pub mod BarsFacts
 pub mod Readings
 pub mod Borders

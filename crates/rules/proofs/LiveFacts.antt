@@ -18,11 +18,11 @@ use Rattle.rules.proofs.ChartK.{K, zoneK}
 use Rattle.rules.proofs.MachineFacts.{machine, priced, bigsK, most, mostTriples}
 
 -- the answer to a withdrawal of K's superior, which is accepted on K with its one zone
-abbrev on : Chart → List Zone → ℕ → ℕ
+abbrev pub on : Chart → List Zone → ℕ → ℕ
 on c zs n = liveRefusal (keeping c zs n) (withdraw 3)
 
 -- K with one record put in another's place
-abbrev strokeK : ℕ → Stroke → Chart
+abbrev pub strokeK : ℕ → Stroke → Chart
 strokeK i s = charted (levels (set (K .strokes) i s) (K .segments) (K .bigs) (K .superiors))
 
 abbrev segmentK : ℕ → Triple → Chart

@@ -34,9 +34,9 @@ use Rattle.rules.proofs.ChartK.{K, zoneK}
 abbrev pub machine : Levels → ℕ → Machine
 machine c n = record { levels = c; count = n }
 
--- a stroke by its direction, bars and prices
+-- a stroke by its direction, bars and prices, not rolled
 abbrev pub priced : ℕ → ℕ → ℕ → Float → Float → Stroke
-priced d a b p q = record { direction = d; «start_bar» = a; «end_bar» = b; «start_price» = p; «end_price» = q }
+priced d a b p q = record { direction = d; roll = 0; «start_bar» = a; «end_bar» = b; «start_price» = p; «end_price» = q }
 
 -- n strokes from bar b on, a bar each, between prices 10 and 20; the first has direction d
 abbrev from : ℕ → ℕ
@@ -57,10 +57,10 @@ abbrev pub bigsK : ℕ → List Triple → Levels
 bigsK n us = levels (K .strokes) (K .segments) (take n (K .bigs)) us
 
 -- three strokes, two segments, two bigs, a superior of one big
-abbrev a0 : Stroke
+abbrev pub a0 : Stroke
 a0 = stroke 1 (turn 2 10) (turn 4 20)
 
-abbrev a1 : Stroke
+abbrev pub a1 : Stroke
 a1 = stroke 0 (turn 4 20) (turn 5 15)
 
 abbrev a2 : Stroke

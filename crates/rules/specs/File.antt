@@ -1,6 +1,6 @@
 -- Chart file: its records, reading and writing. Assumes nothing.
 use Prim.Native.Nat.{ℕ, zero, suc}
-use mathlib.Core.Bool.{Bool, false, _&&_}
+use mathlib.Core.Bool.{Bool, false, cond, _&&_}
 use mathlib.Core.List.{List, [], _∷_, _++_, map}
 use mathlib.Core.Option.{Option, none, some}
 use lib.ListN.{length, getD, take, drop}
@@ -17,10 +17,12 @@ use Rattle.rules.specs.Machine.{withStrokes, withSegments, withBigs, wit
 use Rattle.rules.specs.Text.{ascii}
 use Rattle.rules.specs.Refusals.{refuse, aboveOne, badPrices, badChart}
 
--- ---- the five kinds of record
+-- ---- the six kinds of record
 
+-- 02, request 2: "In files a rolled stroke has the mark SR and ST's layout"
 pub data Kind : Type 0 where
   ST : Kind
+  SR : Kind
   SG : Kind
   BG : Kind
   SU : Kind
@@ -29,6 +31,7 @@ pub data Kind : Type 0 where
 -- the two-byte ASCII mark before a record
 unfoldable pub markOf : Kind → List ℕ
 markOf ST = ascii "ST"
+markOf SR = ascii "SR"
 markOf SG = ascii "SG"
 markOf BG = ascii "BG"
 markOf SU = ascii "SU"
@@ -37,6 +40,7 @@ markOf BR = ascii "BR"
 -- how many bytes stand after the mark
 unfoldable pub width : Kind → ℕ
 width ST = 21
+width SR = 21
 width SG = 5
 width BG = 5
 width SU = 5
@@ -47,7 +51,7 @@ unfoldable pub isMark : ℕ → ℕ → Kind → Bool
 isMark a b k = eqb a (getD (markOf k) 0 0) && eqb b (getD (markOf k) 1 0)
 
 unfoldable pub kindOf : ℕ → ℕ → Option Kind
-kindOf a b = find (isMark a b) (ST ∷ SG ∷ BG ∷ SU ∷ BR ∷ [])
+kindOf a b = find (isMark a b) (ST ∷ SR ∷ SG ∷ BG ∷ SU ∷ BR ∷ [])
 
 -- 02, request 14: a reader meeting BR "in an old file passes over it, its prices unexamined": a bar is the bytes behind its mark, as they stand
 pub data Record : Type 0 where
@@ -58,7 +62,7 @@ pub data Record : Type 0 where
   bar : List ℕ → Record
 
 unfoldable pub kind : Record → Kind
-kind (stroke s) = ST
+kind (stroke s) = cond (eqb (s .roll) 1) SR ST
 kind (segment t) = SG
 kind (big t) = BG
 kind (superior t) = SU
@@ -73,10 +77,12 @@ number from k bytes = ofBytes (take k (drop from bytes))
 unfoldable pub price : ℕ → List ℕ → Float
 price from bytes = ofBits binary64 (number from 8 bytes)
 
-unfoldable pub strokeIn : List ℕ → Stroke
-strokeIn bytes =
+-- ST's layout has no roll byte: the mark tells it
+unfoldable pub strokeIn : ℕ → List ℕ → Stroke
+strokeIn roll bytes =
     record {
       direction = number 0 1 bytes;
+      roll = roll;
       «start_bar» = number 1 2 bytes;
       «end_bar» = number 3 2 bytes;
       «start_price» = price 5 bytes;
@@ -87,7 +93,8 @@ unfoldable pub tripleIn : List ℕ → Triple
 tripleIn bytes = record { direction = number 0 1 bytes; first = number 1 2 bytes; last = number 3 2 bytes }
 
 unfoldable pub recordIn : Kind → List ℕ → Record
-recordIn ST bytes = stroke (strokeIn bytes)
+recordIn ST bytes = stroke (strokeIn 0 bytes)
+recordIn SR bytes = stroke (strokeIn 1 bytes)
 recordIn SG bytes = segment (tripleIn bytes)
 recordIn BG bytes = big (tripleIn bytes)
 recordIn SU bytes = superior (tripleIn bytes)
@@ -132,9 +139,10 @@ append c (bar bytes) = record { levels = c .levels; passed = suc (c .passed) }
 
 -- ---- reading. Per record: 13 cut short; 12 unknown mark; 3 no place left; 2; 1
 
--- no place is left for one more of a kind; a bar takes none
+-- no place is left for one more of a kind: strokes have theirs together, rolled or not, and a bar takes none
 unfoldable pub full : Levels → Kind → Bool
 full c ST = leb 512 (length (c .strokes))
+full c SR = leb 512 (length (c .strokes))
 full c SG = leb 256 (length (c .segments))
 full c BG = leb 256 (length (c .bigs))
 full c SU = leb 256 (length (c .superiors))
@@ -181,8 +189,8 @@ readFile bytes = readFrom 0 nothing 0 bytes
 abbrev pub fill : {A : Type 0} → List A → List A → List A
 fill new old = new ++ drop (length new) old
 
--- 02, request 7: "From now on a writer puts BR first, then strokes (ST or SR), SG, BG, SU." The order is the format's and no choice. Of strokes
--- there are ST alone, and by request 14 "BR records are no longer written"
+-- 02, request 7: "From now on a writer puts BR first, then strokes (ST or SR), SG, BG, SU." The order is the format's and no choice. A rolled stroke
+-- stands in its place among the strokes. By request 14 "BR records are no longer written"
 unfoldable pub recordsOf : Levels → List Record
 recordsOf c = map stroke (c .strokes) ++ map segment (c .segments) ++ map big (c .bigs) ++ map superior (c .superiors)
 

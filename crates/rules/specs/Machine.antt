@@ -15,7 +15,7 @@ use Rattle.rules.specs.Zones.{overlapZones}
 use Rattle.rules.specs.Classes.{segmentClasses, bigClasses}
 use Rattle.rules.specs.Refusals.{strokeRefusal, tripleRefusal, lengthenRefusal, withdrawRefusal, deriveRefusal}
 
--- lengthen has the new last, withdraw a level, derive its case-3 byte
+-- lengthen has the new last, withdraw a level, derive its case-3 byte. 02, request 2: "The plain machine's strokes carry the byte": a stroke has it
 pub data Call : Type 0 where
   addStroke : Stroke → Call
   addSegment : Triple → Call

@@ -28,6 +28,10 @@ refuse false n k = k
 abbrev pub aboveOne : ℕ → Bool
 aboveOne d = ltb 1 d
 
+-- 02, request 2: "Refusal 2 covers the byte after the direction, 21 a stored byte above 1": a stroke's direction, or its roll byte
+unfoldable pub wrongBytes : Stroke → Bool
+wrongBytes s = aboveOne (s .direction) || aboveOne (s .roll)
+
 -- 1 a price that isn't one
 unfoldable pub badPrices : Stroke → Bool
 badPrices s = not (isPrice (s .«start_price»)) || not (isPrice (s .«end_price»))
@@ -38,12 +42,16 @@ badStroke s =
     leb (s .«end_bar») (s .«start_bar»)
     || cond (isUp (s .direction)) (not (lt (s .«start_price») (s .«end_price»))) (not (lt (s .«end_price») (s .«start_price»)))
 
+-- 02, request 2: "with 1 the prices need not meet, while bars and directions still must", "14 drops its price part for a roll". Whether the start
+-- price breaks 14, behind the stroke p
+unfoldable pub unmet : Stroke → Stroke → Bool
+unmet p s = cond (eqb (s .roll) 1) false (not (eq (s .«start_price») (p .«end_price»)))
+
 -- 14 not the first and start bar or start price differs from the previous end, or same direction
 unfoldable pub unjoined : Option Stroke → Stroke → Bool
 unjoined none s = false
 unjoined (some p) s =
-    not (eqb (s .«start_bar») (p .«end_bar»)) || not (eq (s .«start_price») (p .«end_price»))
-    || eqb (s .direction) (p .direction)
+    not (eqb (s .«start_bar») (p .«end_bar»)) || unmet p s || eqb (s .direction) (p .direction)
 
 -- 4 first > last, or first ≤ the previous record's last
 unfoldable pub badTriple : Option Triple → Triple → Bool
@@ -61,9 +69,9 @@ unfoldable pub overfull : Chart → Bool
 overfull c =
     ltb 512 (c .«stroke_count») || ltb 256 (c .«segment_count») || ltb 256 (c .«big_count») || ltb 256 (c .«superior_count»)
 
--- a direction above 1 or a price that isn't one
+-- a direction above 1, or by request 2 a roll byte, or a price that isn't one
 unfoldable pub wrongStroke : Stroke → Bool
-wrongStroke s = aboveOne (s .direction) || badPrices s
+wrongStroke s = wrongBytes s || badPrices s
 
 abbrev pub wrongTriple : Triple → Bool
 wrongTriple t = aboveOne (t .direction)
@@ -129,7 +137,7 @@ badLive b =
 unfoldable pub strokeRefusal : List Stroke → Stroke → ℕ
 strokeRefusal ss s =
     refuse (leb 512 (length ss)) 3
-    (refuse (aboveOne (s .direction)) 2
+    (refuse (wrongBytes s) 2
     (refuse (badPrices s) 1 (refuse (badStroke s) 4 (refuse (unjoined (getLast? ss) s) 14 0))))
 
 -- Add segment, big, superior, over a level of n records: 3 full; 2; 4; 5

@@ -116,7 +116,7 @@ fn put_big(
     prices[k] = [s.low, s.high, e.end_price];
 }
 
-// The larger of two directions.
+// The larger of two bytes.
 fn larger(a: u8, b: u8) -> u8
     ensures { λ r. ⌜ (a ≤ r) × (b ≤ r) ⌝ }
 {
@@ -124,7 +124,7 @@ fn larger(a: u8, b: u8) -> u8
 }
 
 // Refusal 21 of a loaded chart, and the tables of its bigs. All of it in one function, since each call on a chart copies it. Where the
-// largest of the directions and a plain test of the prices do not settle it, bad_chart decides.
+// largest of the directions and roll bytes and a plain test of the prices do not settle it, bad_chart decides.
 pub fn bigs_of(chart: Chart, bars: &mut [[u16; 6]; 256], prices: &mut [[f64; 3]; 256]) -> bool
     requires { ⌜ Wide (now bars) (now prices) ⌝ }
     ensures { λ r. ⌜ r ≡ badChart chart ⌝ }
@@ -153,7 +153,7 @@ pub fn bigs_of(chart: Chart, bars: &mut [[u16; 6]; 256], prices: &mut [[f64; 3];
     while at < count {
         let s = chart.strokes[at];
         plain = plain & levels::plain_prices(s);
-        most = larger(most, s.direction);
+        most = larger(most, larger(s.direction, s.roll));
         at += 1;
     }
     let n = chart.big_count as usize;

@@ -27,13 +27,14 @@ returns c =
     let joined = c .before in
     let ordered = joined .before in
     let priced = ordered .before in
-    let placed = priced .before .before .before in
+    let bytes = priced .before in
+    let placed = bytes .before .before in
     c .first-of .ensures
-    ∙ stroke-number _ _ _ _ _ _ _ (long (placed .before)) (placed .last-place .ensures) (priced .wrong-prices .ensures) (ordered .bad-stroke .ensures)
+    ∙ stroke-number _ _ _ _ _ _ _ _ (long (placed .before)) (placed .last-place .ensures) (bytes .wrong-bytes .ensures) (priced .wrong-prices .ensures) (ordered .bad-stroke .ensures)
     (joined .unjoined-from .ensures)
 
 pub stroke-refusal-spec : {M : Type 1} → statement M
 stroke-refusal-spec =
     tie.close
     (tie.spec (λ c κs. search needs) (λ c. search needs) element-copy-out-p (λ c κs. search needs) (λ c κs. search needs) (λ c κs. search needs)
-    (λ c κs. search needs) returns)
+    (λ c κs. search needs) (λ c κs. search needs) returns)

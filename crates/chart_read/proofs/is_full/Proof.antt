@@ -13,10 +13,16 @@ unfolding fullBy
 returns c = rw (c .before .enum-told .given .1)
 
 returns-2 : tie.Need-returns-2
-returns-2 c = rw (c .before .before .m .given .1) (c .level-full .ensures)
+unfolding fullBy
+returns-2 c = rw (c .before .enum-told2 .given .1)
 
 returns-3 : tie.Need-returns-3
-returns-3 c = bar-free _ _ (c .enum-told2 .given .1)
+returns-3 c = rw (c .before .before .m .given .1) (c .level-full .ensures)
+
+returns-4 : tie.Need-returns-4
+returns-4 c = bar-free _ _ (c .enum-told3 .given .1)
 
 pub is-full-spec : {M : Type 1} → statement M
-is-full-spec = tie.close (tie.spec enum-told (λ c. search needs) (λ c κs. search needs) (λ c. search needs) returns returns-2 returns-3)
+is-full-spec =
+    tie.close
+    (tie.spec enum-told (λ c. search needs) (λ c. search needs) (λ c κs. search needs) (λ c. search needs) returns returns-2 returns-3 returns-4)

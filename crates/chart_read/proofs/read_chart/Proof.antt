@@ -9,7 +9,7 @@ use Rattle.rules.specs.Answer.{Answer, given}
 use Rattle.rules.specs.File.{kind, width, Record, stroke, segment, big, superior}
 use Rattle.laws.proofs.Arrays.{length-via, Sized, sized-via}
 use Rattle.chart_read.specs.declared.Level.the-variants as level
-use Rattle.chart_read.proofs.Scans.{Reached, begins, answerAt, Turn, stops, stroke-is, triple-is, has-place, goes-on, goes-over, ends}
+use Rattle.chart_read.proofs.Scans.{Reached, begins, answerAt, Turn, stops, stroke-is, triple-is, has-place, goes-on, goes-on-stroke, goes-over, ends}
 use Rattle.chart_read.proofs.read_chart.Statement.{statement}
 use Rattle.chart_read.proofs.read_chart.Tie as tie
 
@@ -68,8 +68,7 @@ element-set-from-s : tie.Need-element-set-from-s Inv-loop μ-loop
 element-set-from-s c = omega (arith, has-place (turn (c .before .before .before)) _ (stroke-read c))
 
 loop-again : tie.Need-loop-again Inv-loop μ-loop
-unfolding width kind
-loop-again c = goes-on (turn (c .before .before .before)) _ (stroke-read c) _ refl
+loop-again c = goes-on-stroke (turn (c .before .before .before)) _ (stroke-read c)
 
 enum-told : tie.Need-enum-told Inv-loop μ-loop
 enum-told c = search needs

@@ -13,11 +13,16 @@ unfolding width
 returns c = rw (c .enum-told .given .1)
 
 returns-2 : tie.Need-returns-2
-returns-2 c = level-width _ _ (c .enum-told2 .given .1)
+unfolding width
+returns-2 c = rw (c .enum-told2 .given .1)
 
 returns-3 : tie.Need-returns-3
+returns-3 c = level-width _ _ (c .enum-told3 .given .1)
+
+returns-4 : tie.Need-returns-4
 unfolding width
-returns-3 c = rw (c .enum-told3 .given .1)
+returns-4 c = rw (c .enum-told4 .given .1)
 
 pub width-of-spec : {M : Type 1} → statement M
-width-of-spec = tie.close (tie.spec enum-told (λ c. search needs) (λ c. search needs) returns returns-2 returns-3)
+width-of-spec =
+    tie.close (tie.spec enum-told (λ c. search needs) (λ c. search needs) (λ c. search needs) returns returns-2 returns-3 returns-4)

@@ -14,14 +14,15 @@ price-bytes-requires-2 c κs = end-price _ (c .before .pre)
 
 returns : tie.Need-returns
 returns c =
-    let prices = c .before .before .before .before in
-    stroke-made _ _ _ _ _ _ _ _ (omega arith) refl (c .before .before .before .low-byte .ensures) (c .before .before .high-byte .ensures)
+    let marked = c .before .before .before .before in
+    let prices = marked .before in
+    stroke-made _ _ _ _ _ _ _ _ _ (omega arith) (marked .mark-end .ensures) refl (c .before .before .before .low-byte .ensures) (c .before .before .high-byte .ensures)
     (c .before .low-byte2 .ensures) (c .high-byte2 .ensures) (prices .before .price-bytes .ensures) (prices .price-bytes2 .ensures)
 
 pub stroke-bytes-spec : {M : Type 1} → statement M
 stroke-bytes-spec =
     tie.close
-    (tie.spec price-bytes-requires price-bytes-requires-2 (λ c κs. search needs) (λ c κs. search needs) (λ c κs. search needs) (λ c κs. search needs)
+    (tie.spec price-bytes-requires price-bytes-requires-2 (λ c κs. search needs) (λ c κs. search needs) (λ c κs. search needs) (λ c κs. search needs) (λ c κs. search needs)
     (λ c. search needs) (λ c. search needs) (λ c. search needs) (λ c. search needs) (λ c. search needs) (λ c. search needs) (λ c. search needs)
     (λ c. search needs) (λ c. search needs) (λ c. search needs) (λ c. search needs) (λ c. search needs) (λ c. search needs) (λ c. search needs)
     (λ c. search needs) (λ c. search needs) returns)

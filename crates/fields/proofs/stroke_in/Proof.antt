@@ -8,7 +8,7 @@ use Rattle.fields.proofs.stroke_in.Tie as tie
 returns : tie.Need-returns
 returns c =
     let read = c .before .before in
-    stroke-read _ _ (read .triple-in .ensures) _ _ (sym (c .before .price-at .ensures)) (sym (c .price-at2 .ensures))
+    stroke-read _ _ _ (read .triple-in .ensures) _ _ (sym (c .before .price-at .ensures)) (sym (c .price-at2 .ensures))
 
 pub stroke-in-spec : {M : Type 1} → statement M
 stroke-in-spec = tie.close (tie.spec (λ c κs. search needs) (λ c κs. search needs) (λ c κs. search needs) returns)

@@ -6,7 +6,7 @@ use Rattle.levels.proofs.wrong_stroke.Tie as tie
 
 returns : tie.Need-returns
 unfolding wrongStroke badPrices
-returns c = rw (c .wrong-prices .ensures)
+returns c = rw (c .before .wrong-bytes .ensures, c .wrong-prices .ensures)
 
 pub wrong-stroke-spec : {M : Type 1} → statement M
-wrong-stroke-spec = tie.close (tie.spec (λ c κs. search needs) returns)
+wrong-stroke-spec = tie.close (tie.spec (λ c κs. search needs) (λ c κs. search needs) returns)

@@ -10,13 +10,17 @@ use Rattle.rules.specs.Machine.{addStroke, addSegment, addBig, addSuperior, len
 use Rattle.laws.proofs.FileCode.{one-at}
 use Rattle.log.specs.Log.{call, forms, formOf}
 use Rattle.log.specs.Entries.{widthBy, entryBy}
-use Rattle.log.proofs.Forms.{wide-as, entry-as, no-form, no-entry}
+use Rattle.log.proofs.Forms.{rolled-in, wide-as, entry-as, no-form, no-entry}
 use Rattle.log.proofs.entry_in.Statement.{statement}
 use Rattle.log.proofs.entry_in.Tie as tie
 
+shared-slice-read-stroke-in : tie.Need-shared-slice-read-stroke-in
+unfolding widthBy formOf forms ascii
+shared-slice-read-stroke-in c = wide-as _ 83 (c .before .match .keys1) _ (c .before .before .before .pre)
+
 stroke-in-requires : tie.Need-stroke-in-requires
 unfolding widthBy formOf forms ascii
-stroke-in-requires c κs = wide-as _ 83 (c .match .keys1) _ (c .before .before .pre)
+stroke-in-requires c κs = omega (arith, wide-as _ 83 (c .before .match .keys1) _ (c .before .before .before .pre))
 
 triple-in-requires : tie.Need-triple-in-requires
 unfolding widthBy formOf forms ascii
@@ -34,17 +38,17 @@ two-at-requires : tie.Need-two-at-requires
 unfolding widthBy formOf forms ascii
 two-at-requires c κs = wide-as _ 76 (c .match .keys5) _ (c .before .before .pre)
 
-shared-slice-read-t15 : tie.Need-shared-slice-read-t15
+shared-slice-read-t17 : tie.Need-shared-slice-read-t17
 unfolding widthBy formOf forms ascii
-shared-slice-read-t15 c = wide-as _ 87 (c .before .match .keys6) _ (c .before .before .before .pre)
+shared-slice-read-t17 c = wide-as _ 87 (c .before .match .keys6) _ (c .before .before .before .pre)
 
-shared-slice-read-t18 : tie.Need-shared-slice-read-t18
+shared-slice-read-t20 : tie.Need-shared-slice-read-t20
 unfolding widthBy formOf forms ascii
-shared-slice-read-t18 c = wide-as _ 68 (c .before .match .keys7) _ (c .before .before .before .pre)
+shared-slice-read-t20 c = wide-as _ 68 (c .before .match .keys7) _ (c .before .before .before .pre)
 
-shared-slice-read-t21 : tie.Need-shared-slice-read-t21
+shared-slice-read-t23 : tie.Need-shared-slice-read-t23
 unfolding widthBy formOf forms ascii
-shared-slice-read-t21 c = wide-as _ 69 (c .before .match .keys8) _ (c .before .before .before .pre)
+shared-slice-read-t23 c = wide-as _ 69 (c .before .match .keys8) _ (c .before .before .before .pre)
 
 price-at-requires : tie.Need-price-at-requires
 unfolding widthBy formOf forms ascii
@@ -55,8 +59,11 @@ unfolding widthBy formOf forms ascii
 price-at-requires-2 c κs = omega (arith, wide-as _ 81 (c .before .match .keys9) _ (c .before .before .before .pre))
 
 returns : tie.Need-returns
-unfolding entryBy formOf forms ascii
-returns c = ap (λ (s : Stroke). some (call (addStroke s))) (c .stroke-in .ensures) ∙ entry-as _ 83 (c .before .match .keys1) _
+unfolding widthBy entryBy formOf forms ascii
+returns c =
+    let e = c .before .before .match .keys1 in
+    let long = wide-as _ 83 e _ (c .before .before .before .before .pre) in
+    ap (λ (s : Stroke). some (call (addStroke s))) (rolled-in _ _ long (c .stroke-in .ensures)) ∙ entry-as _ 83 e _
 
 returns-2 : tie.Need-returns-2
 unfolding entryBy formOf forms ascii
@@ -109,14 +116,15 @@ pub entry-in-spec : {M : Type 1} → statement M
 entry-in-spec =
     tie.close
     (tie.spec
+    shared-slice-read-stroke-in
     stroke-in-requires
     triple-in-requires
     triple-in-requires-2
     triple-in-requires-3
     two-at-requires
-    shared-slice-read-t15
-    shared-slice-read-t18
-    shared-slice-read-t21
+    shared-slice-read-t17
+    shared-slice-read-t20
+    shared-slice-read-t23
     price-at-requires
     price-at-requires-2
     returns
