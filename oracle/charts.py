@@ -1,18 +1,20 @@
-"""Charts as Python values, with bars lent to them; chart files and bars files of them (document 01, "Chart file", and 02, requests 7 and 14); and a
+"""Charts as Python values, with bars lent to them; chart files and bars files of them (document 01, "Chart file", and 02, requests 2, 7 and 14); and a
 generator with a seed. Two files are a pair: the chart file and the bars file."""
 import random, struct
-import bars_file
+import bars_file, model
 from bars_file import ODD_BITS
 
 class Chart:
-    """strokes: (direction, start bar, end bar, start price, end price); the other levels: (direction, first, last); bars: (high, low)"""
+    """strokes: (direction, start bar, end bar, start price, end price, roll byte), given without the byte it is 0; the other levels: (direction, first,
+    last); bars: (high, low)"""
     def __init__(self, strokes=(), segments=(), bigs=(), superiors=(), bars=()):
-        self.strokes, self.segments, self.bigs, self.superiors, self.bars = map(list, (strokes, segments, bigs, superiors, bars))
+        self.strokes = [(*s, 0)[:6] for s in strokes]
+        self.segments, self.bigs, self.superiors, self.bars = map(list, (segments, bigs, superiors, bars))
 
     def kinds(self):
-        """the records of each kind: strokes, segments, bigs, superiors"""
+        """the records of each kind: strokes (ST or SR), segments, bigs, superiors"""
         triples = ((b"SG", self.segments), (b"BG", self.bigs), (b"SU", self.superiors))
-        return [[b"ST" + struct.pack("<BHHdd", *s) for s in self.strokes]] + [[mark + struct.pack("<BHH", *t) for t in level] for mark, level in triples]
+        return [list(map(stroke_record, self.strokes))] + [[mark + struct.pack("<BHH", *t) for t in level] for mark, level in triples]
 
     def pack(self):
         """in the order of request 7 of 02: strokes, SG, BG, SU; by request 14 without bars"""
@@ -36,6 +38,10 @@ class Chart:
     def before_14(self):
         """the file as it was written before request 14: BR first"""
         return b"".join(b"BR" + struct.pack("<dd", *b) for b in self.bars) + self.pack()
+
+def stroke_record(s):
+    """the mark, which tells the roll byte, and the other fields"""
+    return (b"ST", b"SR")[s[5]] + struct.pack("<BHHdd", *s[:5])
 
 def bars_pack(bars):
     """the bars file of bars (high, low)"""
@@ -92,6 +98,16 @@ def chart_k(low29=26.0):
 
 # ---- charts made for one purpose
 
+def jumping_k():
+    """K whose stroke from bar 14 is rolled and starts at 27, not at 24: the zone's gg is 27"""
+    c = chart_k()
+    c.strokes[3] = (0, 14, 18, 27.0, 16.0, 1)
+    return c
+
+def with_rolls(c, *places):
+    """the same chart with the strokes at these places rolled, and no other"""
+    return Chart([(*s[:5], int(k in places)) for k, s in enumerate(c.strokes)], *c.parts()[1:], c.bars)
+
 def touching():
     """opposing [14, 20] and [20, 24]: two zones (P6)"""
     return simple([(0, 10), (5, 20), (9, 14), (14, 24), (18, 20), (25, 30)], [(1, 0, 4)])
@@ -128,7 +144,7 @@ def far_too_many():
 def mirrored(c):
     """the same chart upside down"""
     turn = lambda t: (1 - t[0], t[1], t[2])
-    strokes = [(1 - s[0], s[1], s[2], 0.0 - s[3], 0.0 - s[4]) for s in c.strokes]
+    strokes = [(1 - s[0], s[1], s[2], 0.0 - s[3], 0.0 - s[4], s[5]) for s in c.strokes]
     return Chart(strokes, *(map(turn, level) for level in (c.segments, c.bigs, c.superiors)), [(0.0 - l, 0.0 - h) for h, l in c.bars])
 
 def falling(prices, superiors=()):
@@ -274,7 +290,7 @@ def outside():
     """K with a bar too few; K with a stroke that nothing names and that ends behind the bars: 3+N marks are refused with 9"""
     few, unnamed = chart_k(), chart_k()
     few.bars.pop()
-    unnamed.strokes.append((1, 38, 39, 19.0, 20.0))
+    unnamed.strokes.append((1, 38, 39, 19.0, 20.0, 0))
     return [few, unnamed]
 
 def all_bars():
@@ -303,6 +319,10 @@ def full(superiors, seed=1, bars=0, first=4):
     s = turns(pts)
     segments, bigs = [(1 - i % 2, 2 * i, 2 * i + 1) for i in range(256)], [(1 - i % 2, i, i) for i in range(256)]
     return Chart(s, segments, bigs, superiors, [(r.choice(pts)[1], r.choice(pts)[1]) for _ in range(bars)])
+
+def all_strokes():
+    """512 strokes, every third of them rolled, and as many segments and bigs as there may be"""
+    return with_rolls(full(SHAPES["short"]), *range(0, 512, 3))
 
 def alternating(n, width, first=0):
     """n superiors of this many bigs each from the big `first` on, up first"""
@@ -494,7 +514,7 @@ def lent(r, c):
         n = r.randrange(min(n, 60) + 1)
     elif how < 0.15:
         n += 3
-    prices = sorted(p for s in c.strokes for p in s[3:]) or [1.0]
+    prices = sorted(p for s in c.strokes for p in s[3:5]) or [1.0]
     off = r.choice([0, 0, 1])
     near = lambda ps: r.choice(ps) + off * r.choice([-1, 0, 0, 1]) + 0.0
     half = len(prices) // 2 if r.random() < 0.3 else 0
@@ -504,7 +524,11 @@ def generated(seed, i):
     r = random.Random(f"{seed} {i}")
     c = r.choices([live_like, wild, first_like, third_like, numbered_like, crowded], [21, 21, 21, 21, 15, 1])[0](r)
     c.bars = c.bars or lent(r, c)
-    return c
+    return rolled(random.Random(f"rolls {seed} {i}"), c, 0.1)
+
+def rolled(r, c, share):
+    """the same chart with a share of its strokes rolled; nothing else of it is drawn by these numbers"""
+    return with_rolls(c, *[k for k in range(len(c.strokes)) if r.random() < share])
 
 def special():
     missing = simple(K_TURNS, [(1, 0, 7)])
@@ -516,7 +540,8 @@ def special():
     zones = [touching(), three_members(), of_one(1), of_one(255), of_one(256), too_many(), far_too_many(), overlapping, missing, odd, named(256)]
     shapes = [full(s, bars=1024 * (name == "short")) for name, s in SHAPES.items()]
     marks = THIRDS + [mirrored(c) for c in THIRDS] + [many_thirds()] + NUMBERED + [mirrored(c) for c in NUMBERED]
-    return [Chart(), chart_k(), chart_k(20.0), short] + zones + shapes + for_classes() + marks + outside() + bars_and_zones() + [all_bars()]
+    made = [Chart(), chart_k(), chart_k(20.0), short] + zones + shapes + for_classes() + marks + outside() + bars_and_zones() + [all_bars()]
+    return made + [jumping_k(), mirrored(jumping_k()), with_rolls(chart_k(), 0), with_rolls(chart_k(), *range(8)), all_strokes()]
 
 def for_classes():
     """first marks of each side, in and out of order and at one bar; the borders of each comparison; 1, 2 and 6 items (6: P5); one or two, the last of
@@ -528,9 +553,18 @@ def for_classes():
 
 # ---- files
 
-WIDTHS = {b"ST": 23, b"SG": 7, b"BG": 7, b"SU": 7, b"BR": 18, b"HL": 20}
+WIDTHS = {b"ST": 23, b"SR": 23, b"SG": 7, b"BG": 7, b"SU": 7, b"BR": 18, b"HL": 20}
+OTHER_MARK = {b"ST": b"SR", b"SR": b"ST"}
 # the kind whose records name those of a kind, by two numbers behind the direction
 NAMING = {b"HL": b"ST", b"ST": b"SG", b"SG": b"BG", b"BG": b"SU"}
+
+def kind(record):
+    """the mark of a record; ST and SR are one kind, whose indices run over both"""
+    return b"ST" if record[:2] == b"SR" else record[:2]
+
+def exchanged(pair):
+    """two files, the chart file with ST for SR and SR for ST"""
+    return b"".join(OTHER_MARK.get(p[:2], p[:2]) + p[2:] for p in records(pair[0])), pair[1]
 
 def records(data):
     """a file cut into its records; what is behind the last good one is the last part"""
@@ -546,8 +580,8 @@ def unpacked(data, bars=b""):
     c = Chart(bars=[tuple(map(bars_file.value, b)) for b in bars_file.read(bars, bars_file.MOST)])
     levels = {b"SG": c.segments, b"BG": c.bigs, b"SU": c.superiors}
     for p in records(data):
-        if p[:2] == b"ST":
-            c.strokes.append(struct.unpack("<BHHdd", p[2:]))
+        if kind(p) == b"ST":
+            c.strokes.append((*struct.unpack("<BHHdd", p[2:]), int(p[:2] == b"SR")))
         elif p[:2] != b"BR":
             levels[p[:2]].append(struct.unpack("<BHH", p[2:]))
     return c
@@ -576,13 +610,13 @@ def filled_to(n, data):
     return data + (b"SG" + bytes(5)) * segments + (b"BR" + b"\xff" * 16) * ((left - 7 * segments) // 18)
 
 def small_files():
-    """a record of each kind at least, BR and HL too, with a zone and a third mark"""
-    s = [(1, 0, 1, 1.0, 2.0), (0, 1, 0, 2.0, 1.0)]
+    """a record of each mark at least, BR and HL too, with a zone and a third mark"""
+    s = [(1, 0, 1, 1.0, 2.0), (0, 1, 0, 2.0, 1.0, 1)]
     return with_a_bar(Chart(s, one_each(s), one_each(s), [(1, 0, 1)], [(4.0, 3.0)]))
 
 def numbered_files():
-    """a record of each kind at least, with a third mark and one of order 1"""
-    s = [(0, 0, 0, 1.0, 0.0), (1, 0, 0, 0.0, 0.0), (1, 0, 0, 0.0, 0.0), (0, 0, 1, 0.0, 0.0)]
+    """a record of each mark at least, with a third mark and one of order 1"""
+    s = [(0, 0, 0, 1.0, 0.0), (1, 0, 0, 0.0, 0.0, 1), (1, 0, 0, 0.0, 0.0), (0, 0, 1, 0.0, 0.0)]
     return with_a_bar(Chart(s, one_each(s), one_each(s), [(1, 0, 0)], [(4.0, 3.0), (4.0, 3.0)]))
 
 def with_a_bar(c):
@@ -627,18 +661,44 @@ def longer_charts():
     others = long[:-18] + b"SG" + bytes(16), b"x" * 65536, b"x" * 65537, long + long, b"ST\2" + long[3:]
     return [(f, b) for f in (long, long + b"B", *others) for b in (bars, bars[:-1], b"")]
 
-def at_limits(): return around_k() + many_bars() + long_charts() + longer_charts()
+# marks that are like SR, and no marks
+NEAR_SR = [b"RS", b"SS", b"TS", b"Sr", b"sR", b"RR", b"RT"]
+
+def bad_rolls():
+    """an SR with a wrong direction, with an odd price in either place, with both; marks that are like it; and cut"""
+    good, odd = stroke_record((0, 38, 43, 21.0, 15.0, 1)), [struct.pack("<Q", x) for x in ODD_BITS[:3]]
+    out = [good[:2] + bytes([d]) + good[3:] for d in (2, 255)] + [good[:at] + x + good[at + 8:] for at in (7, 15) for x in odd]
+    return out + [good[:2] + b"\2" + good[3:15] + odd[0]] + [mark + good[2:] for mark in NEAR_SR] + [good[:n] for n in (1, 2, 3, 22)]
+
+def around_rolls():
+    """each of these behind K and, but for a cut one, before it; 512 strokes of both marks, and a 513th of each, good or with a wrong direction"""
+    k, most = chart_k().pack(), Chart(all_strokes().strokes).pack()
+    over = [mark + bytes([d]) + bytes(20) for mark in OTHER_MARK for d in (0, 2)]
+    files = [k + bad for bad in bad_rolls()] + [bad + k for bad in bad_rolls() if len(bad) == 23] + [most + more for more in [b""] + over]
+    return [(chart, b"") for chart in files]
+
+def at_limits(): return around_k() + many_bars() + long_charts() + longer_charts() + around_rolls()
+
+def refused_roll(chart):
+    """what to count of a chart file: a refusal at an SR, or at a mark like it"""
+    number, mark = model.refused_at(chart)
+    return [f"chart file refused {number} at {mark.decode()}"] if mark in [b"SR", *NEAR_SR] else []
 
 def shown(data):
     """a file in hexadecimal digits, or how it starts"""
     return f"({len(data)} bytes) {data[:500].hex()}"
 
-# the fields of a record, by the byte at which each starts and its size
-FIELDS = {b"ST": [(2, 1), (3, 2), (5, 2), (7, 8), (15, 8)], **{mark: [(2, 1), (3, 2), (5, 2)] for mark in (b"SG", b"BG", b"SU")}}
+# the fields of a record, by the byte at which each starts and its size; a stroke's roll byte is its mark
+TRIPLE = [(2, 1), (3, 2), (5, 2)]
+STROKE = [(0, 2), *TRIPLE, (7, 8), (15, 8)]
+FIELDS = {b"ST": STROKE, b"SR": STROKE, b"SG": TRIPLE, b"BG": TRIPLE, b"SU": TRIPLE}
 
 def one_bit(r, record):
     """the record with one bit of a field changed, for each field in turn; none is refused"""
     for at, size in FIELDS[record[:2]]:
+        if at == 0:
+            yield OTHER_MARK[record[:2]] + record[2:]
+            continue
         value = int.from_bytes(record[at:at + size], "little")
         while True:
             new = value ^ 1 << (0 if size == 1 else r.randrange(8 * size))
@@ -653,15 +713,16 @@ def changed(r, data):
 
 def comparisons(r):
     """charts to compare, two each with the sizes of two buffers: equal ones; those that differ in one bit of a field, in a record's level, in the order
-    or number of records, at the very end; buffers that are large enough, exactly or by some bytes, or too short"""
-    base, k, most = unpacked(small_files()[0]), chart_k(), full(SHAPES["short"])
+    or number of records, in which strokes are rolled, at the very end; buffers that are large enough, exactly or by some bytes, or too short"""
+    base, k, most = unpacked(small_files()[0]), chart_k(), all_strokes()
     tail = unpacked(most.pack())
     tail.superiors[-1] = (1 - tail.superiors[-1][0], *tail.superiors[-1][1:])
     t = (1, 0, 0)
     bits = [(base, c) for c in changed(r, base.pack())]
     differ = bits + [(most, tail), (Chart(), base), (base, Chart(base.strokes[::-1], *base.parts()[1:])), (base, Chart(*base.parts()[:3]))]
     differ += [(Chart(segments=[t]), Chart(bigs=[t])), (Chart(bigs=[t]), Chart(superiors=[t])), (Chart(segments=[t]), Chart(segments=[t] * 2))]
-    equal = [(c, c) for c in [Chart(), base, k, *(generated(4, i) for i in range(12))]]
+    differ += [(k, with_rolls(k, i)) for i in (0, 3, 7)] + [(with_rolls(k, 2), with_rolls(k, 3)), (with_rolls(k, 1, 2), with_rolls(k, 1)), (k, jumping_k())]
+    equal = [(c, c) for c in [Chart(), base, k, with_rolls(k, 1, 4, 5), *(generated(4, i) for i in range(12))]]
     exact = [(a, b, len(a.pack()), len(b.pack())) for a, b in equal + differ + [(b, a) for a, b in bits]]
     wider = [(a, b, m + r.randrange(9), n + r.randrange(9)) for a, b, m, n in exact[:40]]
     short = [(a, b, m - x, n - y) for a, b, m, n in exact[:20] for x, y in ((1, 0), (0, 1), (1, 1), (m, 0)) if x <= m and y <= n and x + y]
@@ -671,7 +732,7 @@ def comparisons(r):
 
 def lowered(p, mark, place):
     """a record, behind one of a kind at a place that is left out: numbers that name one behind that are one lower"""
-    at = 2 if p[:2] == mark == b"HL" else 3 if p[:2] == NAMING.get(mark) else None
+    at = 2 if p[:2] == mark == b"HL" else 3 if kind(p) == NAMING.get(mark) else None
     if at is None or len(p) != WIDTHS[p[:2]]:
         return p
     end = at + 2 if at == 2 else at + 4
@@ -680,8 +741,8 @@ def lowered(p, mark, place):
 
 def without(parts, k):
     """records of two files, each with its file, without the one at k"""
-    mark = parts[k][1][:2]
-    place = sum(p[:2] == mark for _, p in parts[:k])
+    mark = kind(parts[k][1])
+    place = sum(kind(p) == mark for _, p in parts[:k])
     return [(file, lowered(p, mark, place)) for i, (file, p) in enumerate(parts) if i != k]
 
 def joined(parts): return tuple(b"".join(p for file, p in parts if file == k) for k in (0, 1))
@@ -733,17 +794,25 @@ def damaged(r, data, more):
     return bytes(data)
 
 def too_many_records(r):
-    """of a kind, or more BR than a file has room for"""
+    """of a kind, every third stroke an SR, or more BR than a file has room for"""
     mark, n = r.choice([(b"ST", 513), (b"SG", 257), (b"BG", 257), (b"SU", 257), (b"BR", 3641)])
-    return (mark + bytes(WIDTHS[mark] - 2)) * n
+    return b"".join((b"SR" if mark == b"ST" and i % 3 == 2 else mark) + bytes(WIDTHS[mark] - 2) for i in range(n))
 
 def too_many_bars(r, data):
     """behind those of a file, up to the 2,049th; at times one is left out"""
     first = len(data) // 20 + (r.random() < 0.3)
     return b"".join(bars_file.record((0, 0), n) for n in range(first, 2049))
 
+def with_bad_roll(r, data):
+    """a file with one of bad_rolls among its records, or at its end where it is cut"""
+    parts, bad = records(data), r.choice(bad_rolls())
+    k = r.randrange(len(parts) + 1)
+    return b"".join(parts[:k] + [bad] + parts[k:] * (len(bad) == 23))
+
 def damaged_files(r, pair):
-    """one of two files damaged, or both"""
+    """one of two files damaged, or both; in a tenth of them with a bad SR"""
+    if r.random() < 0.1:
+        return with_bad_roll(r, pair[0]), pair[1]
     which = r.choice(["chart", "chart", "bars", "bars", "both"])
     chart = pair[0] if which == "bars" else damaged(r, pair[0], too_many_records(r))
     return chart, pair[1] if which == "chart" else damaged(r, pair[1], too_many_bars(r, pair[1]))
@@ -763,7 +832,7 @@ def spoilt(r, data):
             at = len(p) - r.choice([8, 16])
             p[at:at + 8] = r.choice(ODD_BITS).to_bytes(8, "little")
         if how == 3:
-            p[:2] = r.choice([b"st", b"TS", b"BT", b"SS", b"\0\0", b"RB", b"LH", *WIDTHS])
+            p[:2] = r.choice([b"st", b"BT", b"\0\0", b"RB", b"LH", *NEAR_SR, *WIDTHS])
         if how == 4:
             del p[r.randrange(len(p) + 1):]
         parts[k:k + 1] = [bytes(p)]
@@ -776,7 +845,7 @@ def spoilt_files(r, pair):
 def brim(r):
     """a level or the bars full to the last place, or one record over, the last of them at times spoilt; at times all of them full, a chart file of
     about 65,536 bytes, or a bars file that is longer"""
-    c = full(r.choice([*SHAPES.values()]), r.randrange(9), 2048)
+    c = rolled(r, full(r.choice([*SHAPES.values()]), r.randrange(9), 2048), 0.5)
     c.strokes[-1] = (*c.strokes[-1][:2], 2047, *c.strokes[-1][3:])
     rows, bars = c.kinds(), bars_pack(c.bars)
     rows[3] = rows[3] * (256 // len(rows[3]))
@@ -804,12 +873,12 @@ def random_records(r):
         return any_bytes(r)
     out = b""
     for _ in range(r.randrange(40)):
-        mark = r.choice([b"ST", b"SG", b"BG", b"SU", b"BR"])
+        mark = r.choice([b"ST", b"SR", b"SG", b"BG", b"SU", b"BR"])
         field = lambda n: struct.pack("<H", r.choice([0, 1, 2, r.randrange(n)]))
         if mark == b"BR":
             out += any_bar(r)
         else:
-            out += mark + bytes([r.choice([0, 0, 0, 1, 1, 1, r.randrange(3)])]) + field(9) + field(9) + small_prices(r) * (mark == b"ST")
+            out += mark + bytes([r.choice([0, 0, 0, 1, 1, 1, r.randrange(3)])]) + field(9) + field(9) + small_prices(r) * (mark in OTHER_MARK)
     return out
 
 def random_bars(r):

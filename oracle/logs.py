@@ -3,7 +3,7 @@ import itertools, math, random
 import charts, machine
 from bars_file import EACH_ODD, bits
 
-def stroke(d, a, e, p, q): return ('S', d, a, e, bits(float(p)), bits(float(q)))
+def stroke(d, a, e, p, q, roll=0): return ('S', d, a, e, bits(float(p)), bits(float(q)), roll)
 def bar(high, low): return ('Q', bits(float(high)), bits(float(low)))
 def packed(entries): return b"".join(letter.encode() + machine.FIELDS[letter].pack(*fields) for letter, *fields in entries)
 
@@ -16,7 +16,7 @@ def split(log):
 def shown(entry):
     """an entry as text, prices as they are printed"""
     letter, *fields = entry
-    return " ".join([letter] + [f"{x:016X}" if k > 2 or letter == 'Q' else str(x) for k, x in enumerate(fields)])
+    return " ".join([letter] + [f"{x:016X}" if k in (3, 4) or letter == 'Q' else str(x) for k, x in enumerate(fields)])
 
 def added_by(entries, at, size):
     """the indices, by level, of the records that a stretch of entries adds"""
@@ -83,17 +83,51 @@ def for_strokes():
         ("and 1", [], stroke(2, 0, 5, NAN, 20), 2), ("and 4", [], stroke(2, 5, 0, 10, 20), 2), ("and 14", [UP], stroke(2, 7, 9, 10, 20), 2),
         ("and 4", [], stroke(1, 5, 5, NAN, 20), 1), ("and 4, prices", [], stroke(1, 0, 5, 10, -0.0), 1), ("and 14", [UP], stroke(0, 6, 9, INF, 14), 1),
         ("and 14", [UP], stroke(1, 9, 6, 20, 30), 4), ("and 14, direction", [UP], stroke(1, 5, 9, 20, 14), 4), ("and all", [UP], stroke(2, 9, 9, NAN, -0.0), 2))]
-    return alone + order + odd_prices()
+    return alone + order + odd_prices() + for_rolls()
+
+# a stroke, one behind it that is rolled and does not start at its end price, and both as they are printed
+PLAIN, ROLLED = stroke(1, 2, 4, 10, 20), stroke(0, 4, 6, 25, 14, 1)
+TWO_STROKES = "stroke 1 2 4 4024000000000000 4034000000000000 0\nstroke 0 4 6 4039000000000000 402C000000000000 1"
+# the first strokes of K with a roll
+K_STROKES = """stroke 1 0 5 4024000000000000 4034000000000000 0
+stroke 0 5 9 4034000000000000 402C000000000000 0
+stroke 1 9 14 402C000000000000 4038000000000000 0
+stroke 0 14 18 403B000000000000 4030000000000000 1
+stroke 1 18 25 4030000000000000 403E000000000000 0"""
+
+def for_rolls():
+    """02, request 2: the roll byte frees the price where a stroke joins the one before it, and nothing else; a byte above 1 is 2"""
+    alone = [tried(*t) for t in (
+        ("a roll, prices apart", [PLAIN], ROLLED, 0), ("no roll, prices apart", [PLAIN], stroke(0, 4, 6, 25, 14), 14),
+        ("a roll, prices meet", [PLAIN], stroke(0, 4, 6, 20, 14, 1), 0), ("a roll down to the price", [PLAIN], stroke(0, 4, 6, 21, 20, 1), 0),
+        ("a roll, a bar later", [PLAIN], stroke(0, 5, 7, 25, 14, 1), 14), ("a roll, a bar earlier", [PLAIN], stroke(0, 3, 6, 20, 14, 1), 14),
+        ("a roll up again", [PLAIN], stroke(1, 4, 6, 25, 30, 1), 14), ("a roll up again, prices meet", [PLAIN], stroke(1, 4, 6, 20, 30, 1), 14),
+        ("roll byte 2", [PLAIN], stroke(0, 4, 6, 25, 14, 2), 2), ("roll byte 2, prices meet", [PLAIN], stroke(0, 4, 6, 20, 14, 2), 2),
+        ("roll byte 255", [PLAIN], stroke(0, 4, 6, 20, 14, 255), 2), ("a first stroke, roll byte 2", [], stroke(1, 2, 4, 10, 20, 2), 2),
+        ("a first stroke that is rolled", [], stroke(1, 2, 4, 10, 20, 1), 0), ("no roll behind it", [stroke(1, 2, 4, 10, 20, 1)], stroke(0, 4, 6, 25, 14), 14),
+        ("behind a roll, prices apart", [PLAIN, ROLLED], stroke(1, 6, 8, 15, 30), 14), ("and prices meet", [PLAIN, ROLLED], stroke(1, 6, 8, 14, 30), 0),
+        ("a roll behind a roll", [PLAIN, ROLLED], stroke(1, 6, 8, 15, 30, 1), 0), ("a roll up, lower", [PLAIN, ROLLED], stroke(1, 6, 8, 9, 30, 1), 0),
+        ("a roll withdrawn, then none", [PLAIN, ROLLED, ('W', 0)], stroke(0, 4, 6, 25, 14), 14))]
+    order = [tried(*t) for t in (
+        ("roll byte 2, and 1", [PLAIN], stroke(0, 4, 6, NAN, 14, 2), 2), ("roll byte 2, and 4", [PLAIN], stroke(0, 6, 4, 25, 14, 2), 2),
+        ("roll byte 2, and 14", [PLAIN], stroke(1, 5, 6, 25, 30, 2), 2), ("direction 2 and roll byte 2", [PLAIN], stroke(2, 4, 6, 20, 14, 2), 2),
+        ("direction 2 and a roll", [PLAIN], stroke(2, 4, 6, 20, 14, 1), 2), ("a roll, start NaN", [PLAIN], stroke(0, 4, 6, NAN, 14, 1), 1),
+        ("a roll, end -0", [PLAIN], stroke(0, 4, 6, 25, -0.0, 1), 1), ("a roll, bars equal", [PLAIN], stroke(0, 4, 4, 25, 14, 1), 4),
+        ("a roll, bars fall", [PLAIN], stroke(0, 4, 3, 25, 14, 1), 4), ("a roll down, prices rise", [PLAIN], stroke(0, 4, 6, 10, 14, 1), 4))]
+    k, short = charts.jumping_k(), ("S with 21 bytes of fields", packed([PLAIN, ROLLED])[:-1], "bad log at 23")
+    remembered = [made("the byte is remembered", [PLAIN, ROLLED], "0\n0\ncount 2\n" + TWO_STROKES)]
+    return alone + order + remembered + [short, made("K with a roll, its strokes", calls_of(k) + bars_of(k), "0\n" * 25 + "count 25\n" + K_STROKES)]
 
 def odd_prices():
     """prices that are none, in either place of a stroke that is good otherwise; and the odd ones that are prices"""
     out = []
     for b in EACH_ODD:
         x = machine.value(b)
-        out += [tried(f"from {b:016X}", [], ('S', int(not x > 1), 0, 5, b, bits(1.0)), 1), tried(f"to {b:016X}", [], ('S', int(not x < 1), 0, 5, bits(1.0), b), 1)]
+        from_it, to_it = ('S', int(not x > 1), 0, 5, b, bits(1.0), 0), ('S', int(not x < 1), 0, 5, bits(1.0), b, 0)
+        out += [tried(f"from {b:016X}", [], from_it, 1), tried(f"to {b:016X}", [], to_it, 1)]
     turns = [-MAX, MAX, 0.0, MIN, -MIN, 2.2250738585072014e-308, 0.0, 1e-310, -MAX]
     odd = [stroke(*s) for s in charts.turns([(7 * i, p) for i, p in enumerate(turns)])]
-    zero = [stroke(1, 0, 5, -1, 0.0), ('S', 0, 5, 9, 1 << 63, bits(-1.0))]
+    zero = [stroke(1, 0, 5, -1, 0.0), stroke(0, 5, 9, -0.0, -1)]
     return out + [made("odd prices that are prices", odd, "0\n" * 8 + "count 8"), made("0 does not go on as -0", zero, "0\n1\ncount 1")]
 
 def floor(level, n=4):
@@ -134,7 +168,7 @@ def for_withdraw():
     rows += [(f"level {k}, a gap below", floor(k + 1) + [("GBU"[k], 1, 2, 2), ('W', k)], ('W', k), 6) for k in range(3)]
     down = [('W', 3)] + [('W', k) for k in (2, 1, 0) for _ in range(4)]
     rows += [("the last stroke", top + down[:-1], ('W', 0), 0), ("none is left", top + down, ('W', 0), 7), ("held until released", top + [('W', 3)], ('W', 2), 0)]
-    return [tried(*row) for row in rows] + [made("all withdrawn and added again", top + down + top, f"count {2 * len(top) + len(down)}\nstroke 1 0 3 4024000000000000 402E000000000000")]
+    return [tried(*row) for row in rows] + [made("all withdrawn and added again", top + down + top, f"count {2 * len(top) + len(down)}\nstroke 1 0 3 4024000000000000 402E000000000000 0")]
 
 def zigzag(prices, up):
     """strokes from price to price, each a segment and a big"""
@@ -222,6 +256,7 @@ def for_full():
     ones = lambda letter, turn: [(letter, (i + turn) % 2, i, i) for i in range(256)]
     again = lambda letter, *more: [(letter, 0, 256, 256), (letter, 2, 256, 256), (letter, 1, 5, 4), (letter, 1, 255, 255), (letter, 0, 256, 999), *more]
     groups = [(s[:512], 0), ([s[512], stroke(2, *s[512][2:4], 1, 2), stroke(1, *s[512][2:4], NAN, 2), stroke(1, 9, 9, 1, 2), s[0]], 3), ([('W', 0), s[511]], 0), ([s[512]], 3)]
+    groups += [([s[512][:-1] + (byte,) for byte in (1, 2)], 3), ([('W', 0), s[511][:-1] + (1,)], 0), ([s[512], s[512][:-1] + (255,)], 3)]
     for k, letter in enumerate("GBU"):
         groups += [(ones(letter, 1 if letter != 'U' else 0), 0), (again(letter), 3), ([('W', k + 1), (letter, k % 2, 255, 255)], 0), (again(letter), 3)]
     groups += [([('L', 255)], 4), ([('L', 256)], 5), ([('D', 0), ('E', 1)], 6), ([('D', 2), ('E', 3)], 2), ([('W', 1), ('W', 2)], 6), ([('W', 0)], 0)]
@@ -257,6 +292,9 @@ def for_length():
 
 K_ZONE_DOWN = "zone 0 5 18 C034000000000000 C030000000000000 C038000000000000 C02C000000000000 1 2"
 K_THIRD, K_ORDER_0, K_ORDER_1 = "third buy 29 403A000000000000 zone 4034000000000000", "threen buy 0 29 403A000000000000", "threen buy 1 38 4033000000000000"
+# the zone of K with a roll, whose gg is 27, and the same upside down
+ROLL_ZONE = "zone 0 5 18 4030000000000000 4034000000000000 402C000000000000 403B000000000000 1 2"
+ROLL_ZONE_DOWN = "zone 0 5 18 C034000000000000 C030000000000000 C03B000000000000 C02C000000000000 1 2"
 K_SELLS = "third sell 29 C03A000000000000 zone C034000000000000", "threen sell 0 29 C03A000000000000", "threen sell 1 38 C033000000000000"
 # K's superior from its third big on: [16, 24] is the zone, and the two bigs before it are anchors whose C is 24
 ANCHORED = ("zone 0 14 18 4030000000000000 4038000000000000 4030000000000000 4038000000000000 3 1",
@@ -271,7 +309,7 @@ BOTH = ("zone 1 29 33 403A000000000000 4041800000000000 403A000000000000 4041800
     "threen sell 0 43 4034000000000000", "threen buy 0 18 4039000000000000", "threen buy 1 29 403A000000000000")
 
 LATER = charts.K_TURNS + [(43, 32), (47, 28)]
-STROKE = "stroke 1 0 5 4024000000000000 4034000000000000"
+STROKE = "stroke 1 0 5 4024000000000000 4034000000000000 0"
 
 def like_k(lows, points=charts.K_TURNS, superiors=((1, 0, 4),), highs={}):
     """K with other turns, superiors or bars: highs 40 and lows 12 but these"""
@@ -280,7 +318,7 @@ def like_k(lows, points=charts.K_TURNS, superiors=((1, 0, 4),), highs={}):
 def ending(name, entries, *lines): return made(name, entries, "\n".join(lines))
 
 def for_rows():
-    """01's P2 to P4 of K, with bars anywhere; upside down; an order of 2; anchors; both sides"""
+    """01's P2 to P4 of K, with bars anywhere; upside down; with a roll; an order of 2; anchors; both sides"""
     c, whole = charts.chart_k(), (K_ZONE, K_THIRD, K_ORDER_0, K_ORDER_1)
     k, bars = calls_of(c), bars_of(c)
     out = [ending("K: P2, P3", k + bars, *whole), ending("K, bars first", bars + k, *whole), ending("K without a bar", k, K_ZONE)]
@@ -290,6 +328,8 @@ def for_rows():
     anchored = like_k({18: 25, 29: 26, 38: 19}, superiors=[(1, 2, 4)])
     both = like_k({18: 25, 29: 26, 38: 19, 47: 28}, LATER, [(1, 2, 4), (0, 5, 6)], {43: 20})
     rows = [("K upside down", charts.mirrored(c), (K_ZONE_DOWN, *K_SELLS)), ("both sides", both, BOTH)]
+    jumping = charts.jumping_k()
+    rows += [("K with a roll", jumping, (ROLL_ZONE, *whole[1:])), ("K with a roll, upside down", charts.mirrored(jumping), (ROLL_ZONE_DOWN, *K_SELLS))]
     rows += [("an order of 2", like_k({29: 26, 38: 19, 47: 28}, LATER), (*whole, "threen buy 2 47 403C000000000000"))]
     rows += [("anchors, buys", anchored, ANCHORED), ("anchors, sells", charts.mirrored(anchored), ANCHORED_DOWN)]
     return out + [ending(name, calls_of(c) + bars_of(c), *lines) for name, c, lines in rows]
@@ -319,7 +359,7 @@ def for_most_bars():
     c = like_k({29: 26, 2047: 19}, charts.K_TURNS[:8] + [(2047, 19)])
     k, bars = calls_of(c), bars_of(c)
     return [ending("2,048 bars", bars[:9] + k + bars[9:], K_ZONE, K_THIRD, K_ORDER_0, "threen buy 1 2047 4033000000000000"),
-            ending("2,049 bars", bars[:2047] + k + bars[2047:] + [bar(2, 1), UP], "bad log at 35094")]
+            ending("2,049 bars", bars[:2047] + k + bars[2047:] + [bar(2, 1), UP], "bad log at 35102")]
 
 def for_bars(): return for_rows() + for_one() + for_nine() + for_most_bars()
 
@@ -367,8 +407,9 @@ def for_readings():
     return [made(name, calls_of(c) + bars_of(c), "0\n" * len(calls_of(c)) + f"count {len(calls_of(c))}") for name, c in both]
 
 def small_log():
-    """a call of each kind, and bars; a zone and a third mark are left"""
+    """a call of each kind, and bars; a rolled stroke whose price does not meet, a zone and a third mark are left"""
     s = charts.turns([(0, 2), (1, 1), (2, 2), (3, 1)], False)
+    s[2] = (0, 2, 3, 2.5, 1.0, 1)
     below = [stroke(*t) for t in s] + [('G', *t) for t in charts.one_each(s)] + [('B', 1, 0, 0), ('D', 1), ('W', 2), ('D', 1)]
     return packed(below + [('B', *t) for t in charts.one_each(s)] + [bar(4, 1), ('E', 0), ('U', 1, 0, 0)] + [bar(4, 3)] * 3 + [('L', 1)])
 
@@ -404,15 +445,19 @@ class Style:
         self.turned = r.choice([0, 0.2, 0.5])
 
 def next_stroke(g):
-    """a stroke that joins the last one; where there is none, mostly the withdrawal of a record that is free"""
+    """a stroke that joins the last one, a fifth of them rolled, half of these from another price; where there is none, mostly the withdrawal of a record
+    that is free"""
     r, style, level = g.r, g.style, g.m.levels[0]
     d, a, p = (1 - level[-1][0], level[-1][2], machine.value(level[-1][4])) if level else (r.randrange(2), style.first_bar, r.randrange(-style.grid, style.grid) * style.scale + 0.0)
+    roll = int(r.random() < 0.2)
+    if roll and level and r.random() < 0.5:
+        p += r.choice([-1, 1]) * r.randrange(1, style.grid + 1) * style.scale
     step = r.randrange(1, style.grid + 1)
     if style.walk == "wide" and len(level) > 5:
         step = max(1, abs(p - machine.value(level[-1][3])) / style.scale + r.choice([-1, 0, 1, 1, 2]))
     elif (style.walk, d) in (("rising", 1), ("falling", 0)):
         step += r.randrange(style.grid + 1)
-    call = ('S', d, a, min(65535, a + r.randrange(1, 4)), bits(p), bits(p + (2 * d - 1) * step * style.scale + 0.0))
+    call = ('S', d, a, min(65535, a + r.randrange(1, 4)), bits(p), bits(p + (2 * d - 1) * step * style.scale + 0.0), roll)
     if machine.refusal(g.m, *call) in (0, 3) or r.random() < 0.1:
         return call
     return next((('W', k) for k in range(4) if machine.refusal(g.m, 'W', k) == 0), call)
@@ -446,7 +491,7 @@ def spoiled(r, call):
     letter, *fields = call
     for _ in range(r.choice([1, 1, 1, 2, 3])):
         k = r.randrange(len(fields))
-        if letter in "SGBU" and k == 0:
+        if letter in "SGBU" and k in (0, 5):  # a direction, or a roll byte
             fields[k] = r.choice([1 - fields[k] & 1, 1 - fields[k] & 1, 2, 3, 255])
         elif letter in "WDE":
             fields[k] = r.choice([0, 1, 2, 3, 4, 255])
@@ -454,15 +499,26 @@ def spoiled(r, call):
             fields[k] = other_price(r, fields[k]) if k > 2 else near(r, fields[k])
     return (letter, *fields)
 
+def apart(r, call):
+    """a stroke that does not join the last one, moved by its own length and mostly not rolled, or turned; another call as it is"""
+    if call[0] != 'S':
+        return call
+    _, d, a, e, *prices, _ = call
+    p, q = map(machine.value, prices)
+    moved, turned = stroke(d, a, e, q, q + q - p + 0.0, r.choice([0, 0, 0, 0, 1, 2])), stroke(1 - d, a, e, p, p + p - q + 0.0, r.randrange(2))
+    return moved if r.random() < 0.7 else turned
+
 def any_call(r, m):
     """a call with fields near the machine's numbers"""
     sizes = [len(level) for level in m.levels]
     letter = r.choice("SSSGGBBUULWDE")
     if letter == 'S':
-        d, _, bar, _, price = m.levels[0][-1] if m.levels[0] and r.random() < 0.8 else (0, 0, 5, 0, bits(10.0))
+        d, _, bar, _, price, _ = m.levels[0][-1] if m.levels[0] and r.random() < 0.8 else (0, 0, 5, 0, bits(10.0), 0)
         start = near(r, bar) if r.random() < 0.2 else bar
-        prices = [p if r.random() < 0.8 else other_price(r, price) for p in (price, bits(float(r.randrange(20))))]
-        return (letter, r.choice([0, 1, 1 - d, 2]), start, near(r, bar + 2), *prices)
+        roll = r.choices([0, 1, 2, 255], [76, 20, 2, 2])[0]
+        first = bits(float(r.randrange(20))) if r.random() < (0.5 if roll else 0.1) else price
+        prices = [p if r.random() < 0.8 else other_price(r, price) for p in (first, bits(float(r.randrange(20))))]
+        return (letter, r.choice([0, 1, 1 - d, 2]), start, near(r, bar + 2), *prices, roll)
     if letter in "GBU":
         k = machine.LEVEL[letter]
         before = m.levels[k][-1][2] if m.levels[k] else -1
@@ -494,7 +550,7 @@ def doubtful(g):
     how = g.r.random()
     if how < 0.5:
         return spoiled(g.r, next_record(g, g.r.randrange(4)) if how < 0.4 else lengthening(g))
-    return any_call(g.r, g.m)
+    return apart(g.r, next_stroke(g)) if how < 0.65 else any_call(g.r, g.m)
 
 MOVES = {
     **{name: lambda g, k=k: g.call(*next_record(g, k)) for k, name in enumerate("SGBU")},

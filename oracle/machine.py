@@ -1,7 +1,7 @@
 """Document 01's plain machine, fed with calls alone, and what the program `replay` must print of a log. Zones, classes and marks are model.py's.
-A call is a letter and its fields, in the order of the log: S add stroke, G B U add segment, big, superior, L lengthen, W withdraw, D E derive bigs and
-superiors. Q is no call: its high and low are one more bar of the slices that the marks are asked with. An entry of a log is a call or a Q. A price is its
-64 bits; comparisons are those of floats. SW holds the wrong readings that are on, as in model.py."""
+A call is a letter and its fields, in the order of the log: S add stroke (the roll byte last), G B U add segment, big, superior, L lengthen, W withdraw,
+D E derive bigs and superiors. Q is no call: its high and low are one more bar of the slices that the marks are asked with. An entry of a log is a call or a
+Q. A price is its 64 bits; comparisons are those of floats. SW holds the wrong readings that are on, as in model.py."""
 import struct
 import model
 from bars_file import value
@@ -11,10 +11,10 @@ MOST = 0xFFFFFFFF   # where the count stops
 ROOM = 65536        # bytes that a log has at most
 BARS = 2048         # bars that a log has at most
 FIELDS = {c: struct.Struct(f) for c, f in (
-    ('S', '<BHHQQ'), ('G', '<BHH'), ('B', '<BHH'), ('U', '<BHH'), ('L', '<H'), ('W', '<B'), ('D', '<B'), ('E', '<B'), ('Q', '<QQ'))}
+    ('S', '<BHHQQB'), ('G', '<BHH'), ('B', '<BHH'), ('U', '<BHH'), ('L', '<H'), ('W', '<B'), ('D', '<B'), ('E', '<B'), ('Q', '<QQ'))}
 LEVEL = {'S': 0, 'G': 1, 'B': 2, 'U': 3, 'D': 2, 'E': 3}
 NAMES = ('stroke', 'segment', 'big', 'superior')
-# 01's numbers of each call, in 01's order
+# the numbers of each call in their order, 01's and 02's (request 2)
 ORDER = {'S': (3, 2, 1, 4, 14), 'G': (3, 2, 4, 5), 'B': (3, 2, 4, 5), 'U': (3, 2, 4, 5), 'L': (7, 4, 5), 'W': (2, 7, 6), 'D': (2, 6), 'E': (2, 6)}
 SW = set()
 def on(s): return s in SW
@@ -38,23 +38,28 @@ def is_full(m, letter):
 
 def not_a_direction(letter, d): return d > 1 + on(letter + ' direction 2 taken')
 
+def not_a_roll(byte): return byte > 1 + on('S roll 2 taken')
+
 def in_no_order(d, a, e, x, y):
     """4 of a stroke from bar a to e, price x to y"""
     if a >= e and not (on('S equal bars taken') and a == e): return True
     if on('S equal prices taken') and x == y: return False
     return d == 1 and not on('S rise not asked') and not y > x or d == 0 and not on('S fall not asked') and not y < x
 
-def not_joined(level, d, a, p):
-    """14 of a stroke that starts at bar a and price p"""
-    if not level: return False
+def not_joined(level, d, a, p, roll):
+    """14 of a stroke that starts at bar a and price p; a roll drops the price part, and nothing else"""
+    if not level: return roll and on('S first roll refused')
     before = level[-1]
-    bar, direction = a != before[2] and not on('S bars need not join'), d == before[0] and not on('S directions may repeat')
+    bar = a != before[2] and not on('S bars need not join') and not (roll and on('S roll drops bars'))
+    direction = d == before[0] and not on('S directions may repeat') and not (roll and on('S roll drops direction'))
     price = p != before[4] if on('S joined by bits') else value(p) != value(before[4])
-    return bar or price and not on('S prices need not join') or direction
+    free = before[5] if on('S roll frees the next joint') else roll and not on('S roll keeps price part') or before[5] and on('S roll frees both joints')
+    return bar or price and not on('S prices need not join') and not free or direction
 
-def stroke_tests(m, letter, d, a, e, p, q):
+def stroke_tests(m, letter, d, a, e, p, q, roll):
+    wrong = not_a_direction(letter, d) or not_a_roll(roll)
     bad = not (is_price(p) or on('S start price any')) or not (is_price(q) or on('S end price any'))
-    return (3, is_full(m, letter)), (2, not_a_direction(letter, d)), (1, bad), (4, in_no_order(d, a, e, value(p), value(q))), (14, not_joined(m.levels[0], d, a, p))
+    return (3, is_full(m, letter)), (2, wrong), (1, bad), (4, in_no_order(d, a, e, value(p), value(q))), (14, not_joined(m.levels[0], d, a, p, roll))
 
 def triple_tests(m, letter, d, first, last):
     level, below = m.levels[LEVEL[letter]], m.levels[LEVEL[letter] - 1]
@@ -93,14 +98,14 @@ def refusal(m, letter, *fields):
 # ---- the machine
 
 class Machine:
-    """strokes (d, start bar, end bar, start price, end price), segments, bigs, superiors (d, first, last), and the count; beside them the bars (high,
-    low) of the log, which no call sees"""
+    """strokes (d, start bar, end bar, start price, end price, roll), segments, bigs, superiors (d, first, last), and the count; beside them the bars
+    (high, low) of the log, which no call sees"""
     def __init__(self):
         self.levels, self.count, self.bars, self.kept, self.marked = [[], [], [], []], 0, [], None, None
 
     def chart(self):
         """model.py's chart, with prices as floats"""
-        return model.Chart([(d, a, e, value(p), value(q)) for d, a, e, p, q in self.levels[0]], *self.levels[1:], [], [])
+        return model.Chart([(d, a, e, value(p), value(q), roll) for d, a, e, p, q, roll in self.levels[0]], *self.levels[1:], [], [])
 
     def lent(self):
         """the chart with the bars as its slices"""
@@ -126,7 +131,7 @@ class Machine:
         elif letter in 'DE':
             self.levels[LEVEL[letter]] += self.classes(letter, *fields)
         else:
-            self.levels[LEVEL[letter]].append(fields)
+            self.levels[LEVEL[letter]].append((*fields[:5], 0) if letter == 'S' and on('S roll not remembered') else fields)
 
     def call(self, letter, *fields):
         """the number of the call, 0 where it is accepted"""
@@ -203,7 +208,7 @@ def zone_row(z): return f'{z.sup} {z.start} {z.end} {model.hx(z.zd)} {model.hx(z
 
 def printed(answers, m):
     lines = [*map(str, answers), f'count {m.count}']
-    lines += ['stroke %d %d %d %016X %016X' % s for s in m.levels[0]]
+    lines += ['stroke %d %d %d %016X %016X %d' % s for s in m.levels[0]]
     lines += ['%s %d %d %d' % (name, *t) for name, level in zip(NAMES[1:], m.levels[1:]) for t in level]
     zones = ['zone ' + zone_row(z) for z in m.zones()]
     lines += mark_lines(m) + zones if on('marks before zones') else zones + mark_lines(m)
@@ -227,6 +232,8 @@ def switches():
     adds += each('GBU', 'one alone refused', 'touch taken', 'gap refused', 'same direction refused', 'one behind taken')
     adds += each('S', 'equal bars taken', 'equal prices taken', 'rise not asked', 'fall not asked', 'start price any', 'end price any')
     adds += each('S', 'bars need not join', 'prices need not join', 'directions may repeat', 'joined by bits')
+    adds += each(['S roll'], 'keeps price part', 'drops bars', 'drops direction', 'frees the next joint', 'frees both joints', '2 taken', 'not remembered')
+    adds += ['S first roll refused']
     prices = ['nan-a-price', 'infinity-a-price', 'minus-zero-a-price', 'zero-no-price', 'subnormal-no-price']
     others = each('L', 'same last taken', 'one behind taken') + each('W', 'under any record refused', 'held record taken')
     others += each('DE', 'byte 2 taken', 'on any level', 'byte as 0', 'byte as 1', 'of nothing not counted') + ['E from segments', 'refused counts']

@@ -1,5 +1,5 @@
 // Prints what the reference Rust gives for charts. Reading, the refusals, a zone's members and a third mark's ground, which the reference
-// lacks, are written here from documents 01 and 02 (request 14) alone, over the reference's ranges and end points. Of a third mark side, bar,
+// lacks, are written here from documents 01 and 02 (requests 2, 14) alone, over the reference's ranges and end points. Of a third mark side, bar,
 // price and place among the rows are the reference's; the ground is that of `thirds`, 01's rule over the reference's zones, and its rows must
 // be the reference's, or this program panics.
 //   oracle one CHART BARS SECTION..  a chart file and a bars file
@@ -24,14 +24,15 @@ fn is_price(x: f64) -> bool { x.is_finite() && x.to_bits() != 1 << 63 }
 // a refusal, with the place of its record's mark
 type Refusal = (usize, usize);
 
-// The four levels of a chart file, and how many BR records were passed over. 13 cut short; 12 unknown mark; 3 no place left; 2; 1
+// The four levels of a chart file, and how many BR records were passed over. 13 cut short; 12 unknown mark; 3 no place left; 2; 1. An SR is read as
+// ST: the reference has no roll byte
 fn read_chart(b: &[u8]) -> Result<(Chart, usize), Refusal> {
     let mut c = Chart::default();
     let (mut passed, mut at) = (0, 0);
     while at < b.len() {
         if b.len() - at < 2 { return Err((13, at)); }
         let mark = &b[at..at + 2];
-        let width = match mark { b"ST" => 21, b"SG" | b"BG" | b"SU" => 5, b"BR" => 16, _ => return Err((12, at)) };
+        let width = match mark { b"ST" | b"SR" => 21, b"SG" | b"BG" | b"SU" => 5, b"BR" => 16, _ => return Err((12, at)) };
         let r = &b[at + 2..];
         if r.len() < width { return Err((13, at)); }
         if mark == b"BR" { passed += 1; } else { read_record(&mut c, mark, r).map_err(|n| (n, at))?; }
@@ -42,12 +43,17 @@ fn read_chart(b: &[u8]) -> Result<(Chart, usize), Refusal> {
 
 // one more record of a level; or its number
 fn read_record(c: &mut Chart, mark: &[u8], r: &[u8]) -> Result<(), usize> {
-    let full = match mark { b"ST" => c.strokes.len() >= 512, b"SG" => c.segments.len() >= 256, b"BG" => c.bigs.len() >= 256, _ => c.superiors.len() >= 256 };
+    let full = match mark {
+        b"ST" | b"SR" => c.strokes.len() >= 512,
+        b"SG" => c.segments.len() >= 256,
+        b"BG" => c.bigs.len() >= 256,
+        _ => c.superiors.len() >= 256,
+    };
     if full { return Err(3); }
     if r[0] > 1 { return Err(2); }
     let (up, a, e) = (r[0] == 1, u16_at(r, 1), u16_at(r, 3));
     match mark {
-        b"ST" => {
+        b"ST" | b"SR" => {
             let (p, q) = (f64_at(r, 5), f64_at(r, 13));
             if !is_price(p) || !is_price(q) { return Err(1); }
             c.strokes.push(Stroke { is_up: up, start_bar: a, end_bar: e, start_price: p, end_price: q });

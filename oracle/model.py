@@ -1,6 +1,6 @@
 """A model of document 01, independent of the definitions, with a switch for each reading that is rejected (SW holds those that are on): where a
 switch changes an answer, the chart tells the two readings apart. The facts of crates/rules/proofs/Readings.antt and Borders.antt were found so.
-A chart: strokes (d, start bar, end bar, start price, end price), segs, bigs, sups (d, first, last), highs, lows."""
+A chart: strokes (d, start bar, end bar, start price, end price, roll), segs, bigs, sups (d, first, last), highs, lows. Nothing here asks for the roll."""
 import inspect, re, struct
 from collections import namedtuple
 import bars_file
@@ -507,8 +507,8 @@ def report(c, passed=0):
         for b in (0, 1): o += tried(f'{head} case3={b}', lambda: [f'{m[0]} {hx(m[1])}' for m in first_marks(c, b, buy)])
     return o
 
-# ---- the program marks: what it prints for a chart file and a bars file (02, request 14)
-SIZES = {b'ST': (21, 512), b'SG': (5, 256), b'BG': (5, 256), b'SU': (5, 256), b'BR': (16, None)}
+# ---- the program marks: what it prints for a chart file and a bars file (02, requests 2 and 14)
+SIZES = {b'ST': (21, 512), b'SR': (21, 512), b'SG': (5, 256), b'BG': (5, 256), b'SU': (5, 256), b'BR': (16, None)}
 def read(data):
     """the chart in a file, without bars, and how many BR were passed over"""
     rows = {kind: [] for kind in SIZES}
@@ -518,15 +518,17 @@ def read(data):
         if len(kind) < 2: raise Refused(13, at)
         if kind not in SIZES: raise Refused(12, at)
         width, places = SIZES[kind]
+        level = rows[b'ST' if kind == b'SR' else kind]
         r = data[at + 2:at + 2 + width]
         if len(r) < width: raise Refused(13, at)
         if kind == b'BR': passed += 1
         else:
-            if len(rows[kind]) == places: raise Refused(3, at)
+            if len(level) == places: raise Refused(3, at)
             if r[0] > 1: raise Refused(2, at)
             prices = [int.from_bytes(r[i:i + 8], 'little') for i in range(5, width, 8)]
             if not all(map(bars_file.is_price, prices)): raise Refused(1, at)
-            rows[kind].append((r[0], r[1] + 256 * r[2], r[3] + 256 * r[4], *map(bars_file.value, prices)))
+            roll = [int(kind == b'SR')] if prices else []
+            level.append((r[0], r[1] + 256 * r[2], r[3] + 256 * r[4], *map(bars_file.value, prices), *roll))
         at += 2 + width
     return Chart(rows[b'ST'], rows[b'SG'], rows[b'BG'], rows[b'SU'], [], []), passed
 def files(chart, bars):
@@ -535,6 +537,13 @@ def files(chart, bars):
     c, passed = read(chart)
     rows = bars_file.read(bars, 2048)
     return c._replace(highs=[bars_file.value(h) for h, _ in rows], lows=[bars_file.value(l) for _, l in rows]), passed
+def refused_at(chart):
+    """the number with which a chart file is refused, or 0, and the mark there, if it is not too long"""
+    try: files(chart, b'')
+    except Refused as refusal:
+        number, at = refusal.args
+        return number, chart[at:at + 2] if at < 65536 else b''
+    return 0, b''
 def marks(chart, bars):
     """what the program marks must print for two files, as bytes"""
     try: c, _ = files(chart, bars)
