@@ -141,7 +141,7 @@ unfolding refuse
 refuse-one true n = eqb·suc-zero n
 refuse-one false n = refl
 
--- where its mark tells the roll byte, its fields' refusal is that it is wrong
+-- where its mark tells the roll byte, a record is wrong exactly if its fields are refused
 wrong-is : (r : Record) → aboveOne (rollOf r) ≡ false → eqb (fieldRefusal r) 0 ≡ not (wrong r)
 unfolding rollOf fieldRefusal wrong wrongStroke wrongBytes refuse
 wrong-is (stroke s) told = rw told (go (aboveOne (s .direction)) (badPrices s))

@@ -60,7 +60,7 @@ bigsK n us = levels (K .strokes) (K .segments) (take n (K .bigs)) us
 abbrev pub a0 : Stroke
 a0 = stroke 1 (turn 2 10) (turn 4 20)
 
-abbrev pub a1 : Stroke
+abbrev a1 : Stroke
 a1 = stroke 0 (turn 4 20) (turn 5 15)
 
 abbrev a2 : Stroke

@@ -2,7 +2,7 @@
 use Prim.Native.Nat.{ℕ}
 use mathlib.Core.Path.{_≡_, refl}
 use mathlib.Core.List.{List, [], _∷_, _++_, map}
-use lib.ListN.{take, set, replicate}
+use lib.ListN.{take, replicate}
 use lib.Ieee.{nan}
 use Rattle.chart.specs.declared.Stroke.{Stroke}
 use Rattle.chart.specs.declared.Chart.{Chart}
@@ -13,7 +13,7 @@ use Rattle.rules.specs.Zones.{overlapZones}
 use Rattle.rules.specs.Calls.{zonesCall, thirdCall}
 use Rattle.rules.specs.Machine.{addStroke, empty, refusal, run, answers}
 use Rattle.rules.specs.Text.{ascii}
-use Rattle.rules.specs.File.{SR, markOf, Record, recordBytes, Content, readFile, written, writeRefusal}
+use Rattle.rules.specs.File.{SR, markOf, recordBytes, Content, readFile, written, writeRefusal}
 use Rattle.rules.specs.File as file
 use Rattle.rules.proofs.Computing.{everything}
 use Rattle.rules.proofs.Charts.{price, turn, triple, stroke, withRoll, rolled, levels, counted, charted}
