@@ -16,7 +16,7 @@ use Rattle.laws.proofs.FileCode.{part}
 use Rattle.chart_read.specs.declared.Mark.{Mark}
 use Rattle.chart_read.specs.declared.MarkRead.{MarkRead}
 use Rattle.chart_read.specs.declared.Head.{Head}
-use Rattle.chart_read.specs.Heads.{kindBy, markedBy, answerOf, checkedAs, checked}
+use Rattle.chart_read.specs.Heads.{kindBy, markedBy, answerOf, checked}
 use Rattle.chart_read.specs.declared.MarkRead.the-variants as read
 
 -- enough bytes behind the mark
@@ -31,7 +31,7 @@ module _ (f : Kind → Bool) where
   head-short (a ∷ b ∷ s) h = absurd (omega arith)
 
   right : (s : List ℕ) (k : Kind) → width k ≤ length s → f k ≡ false → readBehind f s (some k) ≡ checked k s
-  unfolding readBehind refuse checkedAs checked
+  unfolding readBehind refuse checked
   right s k h e = rw (le-ltb (length s) (width k) h, e)
 
   module _ (s : List ℕ) (h : 2 ≤ length s) (o : MarkRead) (called : markedBy o ≡ kindOf (getD s 0 0) (getD s 1 0)) where

@@ -2,11 +2,11 @@
 use Prim.Native.Nat.{ℕ, suc}
 use native.Mathlib.Omega.{arith}
 use mathlib.Core.Path.{_≡_, refl, sym, ap, _∙_}
-use mathlib.Core.Bool.{true, false, and-false}
+use mathlib.Core.Bool.{Bool, true, false, and-false}
 use mathlib.Core.List.{List}
 use mathlib.Core.Option.{none, some}
 use lib.ListN.{getD}
-use lib.Dec.{eqb}
+use lib.Dec.{eqb, leb}
 use borrow.Author.Tests.{ne-eqb}
 use Rattle.chart.specs.declared.Stroke.{Stroke}
 use Rattle.chart.specs.declared.Triple.{Triple}
@@ -19,7 +19,7 @@ use Rattle.laws.proofs.Lists.{nil, cons, find-none}
 use Rattle.chart_read.specs.declared.Level.{Level}
 use Rattle.chart_read.specs.declared.Mark.{Mark}
 use Rattle.chart_read.specs.declared.Counts.{Counts}
-use Rattle.chart_read.specs.Heads.{levelKind, kindBy, tripleBy, checkedAs, checked, fullBy}
+use Rattle.chart_read.specs.Heads.{levelKind, strokeKind, rollBy, kindBy, tripleBy, checked, fullBy}
 use Rattle.chart_read.specs.declared.Level.the-variants as level
 use Rattle.chart_read.specs.declared.Mark.the-variants as mark
 
@@ -80,6 +80,23 @@ module _ (a b : ℕ) where
   unfolding markOf ascii
   mark-none p q = no-kind (first ST q) (first SR q) (first SG q) (first BG p) (first SU q) (first BR p)
 
+-- strokes of both marks are as wide, and have their places together
+pub stroke-width : (m : Mark) (rolled : Bool) → m ≡ mark.Stroke rolled → 21 ≡ width (kindBy m)
+unfolding width
+stroke-width m rolled e = go rolled ∙ ap (λ (k : Mark). width (kindBy k)) (sym e)
+  where
+    go : (b : Bool) → 21 ≡ width (strokeKind b)
+    go true = refl
+    go false = refl
+
+pub stroke-places : (c : Counts) (m : Mark) (rolled : Bool) → m ≡ mark.Stroke rolled → leb 512 (c .strokes) ≡ fullBy c (kindBy m)
+unfolding fullBy
+stroke-places c m rolled e = go rolled ∙ ap (λ (k : Mark). fullBy c (kindBy k)) (sym e)
+  where
+    go : (b : Bool) → leb 512 (c .strokes) ≡ fullBy c (strokeKind b)
+    go true = refl
+    go false = refl
+
 pub level-width : (m : Mark) (l : Level) → m ≡ mark.Triple l → 5 ≡ width (kindBy m)
 unfolding width
 level-width m l e = go l ∙ ap (λ (k : Mark). width (kindBy k)) (sym e)
@@ -91,36 +108,35 @@ level-width m l e = go l ∙ ap (λ (k : Mark). width (kindBy k)) (sym e)
 
 -- ---- the record of a kind, by the tests on its fields
 
-module _ (r q : Record) (e : r ≡ q) where
-  with-number : (n : ℕ) → fieldRefusal r ≡ suc n → refused (suc n) ≡ checkedAs q
-  unfolding checkedAs answered
+module _ (s : List ℕ) (k : Kind) (r : Record) (e : r ≡ recordIn k s) where
+  with-number : (n : ℕ) → fieldRefusal r ≡ suc n → refused (suc n) ≡ checked k s
+  unfolding checked answered
   with-number n h = rw (← e, h)
 
-  with-none : fieldRefusal r ≡ 0 → given r ≡ checkedAs q
-  unfolding checkedAs answered
+  with-none : fieldRefusal r ≡ 0 → given r ≡ checked k s
+  unfolding checked answered
   with-none h = rw (← e, h)
 
-module _ (t q : Stroke) (e : t ≡ q) where
-  pub stroke-direction : aboveOne (t .direction) ≡ true → refused 2 ≡ checkedAs (stroke q)
+module _ (s : List ℕ) (rolled : Bool) (roll : ℕ) (told : roll ≡ rollBy rolled) (t : Stroke) (e : t ≡ strokeIn roll s) where
+  is-stroke : stroke t ≡ recordIn (strokeKind rolled) s
+  unfolding recordIn
+  is-stroke = ap stroke (e ∙ ap (λ (n : ℕ). strokeIn n s) told) ∙ go rolled
+    where
+      go : (b : Bool) → stroke (strokeIn (rollBy b) s) ≡ recordIn (strokeKind b) s
+      go true = refl
+      go false = refl
+
+  pub stroke-direction : aboveOne (t .direction) ≡ true → refused 2 ≡ checked (strokeKind rolled) s
   unfolding fieldRefusal refuse
-  stroke-direction h = with-number (stroke t) (stroke q) (ap stroke e) 1 (rw h)
+  stroke-direction h = with-number s (strokeKind rolled) (stroke t) is-stroke 1 (rw h)
 
-  pub stroke-prices : aboveOne (t .direction) ≡ false → badPrices t ≡ true → refused 1 ≡ checkedAs (stroke q)
+  pub stroke-prices : aboveOne (t .direction) ≡ false → badPrices t ≡ true → refused 1 ≡ checked (strokeKind rolled) s
   unfolding fieldRefusal refuse
-  stroke-prices h p = with-number (stroke t) (stroke q) (ap stroke e) 0 (rw (h, p))
+  stroke-prices h p = with-number s (strokeKind rolled) (stroke t) is-stroke 0 (rw (h, p))
 
-  pub stroke-given : aboveOne (t .direction) ≡ false → badPrices t ≡ false → given (stroke t) ≡ checkedAs (stroke q)
+  pub stroke-given : aboveOne (t .direction) ≡ false → badPrices t ≡ false → given (stroke t) ≡ checked (strokeKind rolled) s
   unfolding fieldRefusal refuse
-  stroke-given h p = with-none (stroke t) (stroke q) (ap stroke e) (rw (h, p))
-
--- the mark tells the roll byte
-pub plain-checked : (s : List ℕ) (m : Mark) → m ≡ mark.Stroke → checkedAs (stroke (strokeIn 0 s)) ≡ checked (kindBy m) s
-unfolding checked recordIn
-plain-checked s m e = rw e
-
-pub rolled-checked : (s : List ℕ) (m : Mark) → m ≡ mark.Rolled → checkedAs (stroke (strokeIn 1 s)) ≡ checked (kindBy m) s
-unfolding checked recordIn
-rolled-checked s m e = rw e
+  stroke-given h p = with-none s (strokeKind rolled) (stroke t) is-stroke (rw (h, p))
 
 module _ (s : List ℕ) (t : Triple) (e : t ≡ tripleIn s) where
   is-triple : (l : Level) → tripleBy l t ≡ recordIn (levelKind l) s
@@ -136,17 +152,17 @@ module _ (s : List ℕ) (t : Triple) (e : t ≡ tripleIn s) where
   by-direction level.Superior = refl
 
   pub triple-direction : (l : Level) → aboveOne (t .direction) ≡ true → refused 2 ≡ checked (levelKind l) s
-  unfolding refuse checked
-  triple-direction l h = with-number (tripleBy l t) (recordIn (levelKind l) s) (is-triple l) 1 (by-direction l ∙ rw h)
+  unfolding refuse
+  triple-direction l h = with-number s (levelKind l) (tripleBy l t) (is-triple l) 1 (by-direction l ∙ rw h)
 
   pub triple-given : (l : Level) → aboveOne (t .direction) ≡ false → given (tripleBy l t) ≡ checked (levelKind l) s
-  unfolding refuse checked
-  triple-given l h = with-none (tripleBy l t) (recordIn (levelKind l) s) (is-triple l) (by-direction l ∙ rw h)
+  unfolding refuse
+  triple-given l h = with-none s (levelKind l) (tripleBy l t) (is-triple l) (by-direction l ∙ rw h)
 
 -- a bar has no field that is tested, and takes no place
 pub bar-given : (s : List ℕ) (m : Mark) → m ≡ mark.Bar → given (recordIn BR s) ≡ checked (kindBy m) s
-unfolding checked recordIn fieldRefusal
-bar-given s m e = with-none (recordIn BR s) (recordIn BR s) refl refl ∙ rw e
+unfolding recordIn fieldRefusal
+bar-given s m e = with-none s BR (recordIn BR s) refl refl ∙ rw e
 
 pub bar-free : (c : Counts) (m : Mark) → m ≡ mark.Bar → false ≡ fullBy c (kindBy m)
 unfolding fullBy

@@ -1,6 +1,6 @@
 -- The record at the head of some bytes as the code's enums have it. Assumes nothing.
 use Prim.Native.Nat.{ℕ}
-use mathlib.Core.Bool.{Bool, false}
+use mathlib.Core.Bool.{Bool, false, cond}
 use mathlib.Core.List.{List}
 use mathlib.Core.Option.{Option, none, some}
 use lib.Dec.{leb}
@@ -23,9 +23,15 @@ levelKind level.Segment = SG
 levelKind level.Big = BG
 levelKind level.Superior = SU
 
+-- of a stroke, which is rolled or not; and its roll byte
+abbrev pub strokeKind : Bool → Kind
+strokeKind rolled = cond rolled SR ST
+
+abbrev pub rollBy : Bool → ℕ
+rollBy rolled = cond rolled 1 0
+
 abbrev pub kindBy : Mark → Kind
-kindBy mark.Stroke = ST
-kindBy mark.Rolled = SR
+kindBy (mark.Stroke rolled) = strokeKind rolled
 kindBy (mark.Triple l) = levelKind l
 kindBy mark.Bar = BR
 
@@ -45,12 +51,9 @@ answerOf (head.Stroke s) behind = given (stroke s)
 answerOf (head.Triple l t) behind = given (tripleBy l t)
 answerOf head.Bar behind = given (recordIn BR behind)
 
--- a record, by its fields' refusal; that of a kind in some bytes
-unfoldable pub checkedAs : Record → Answer Record
-checkedAs r = answered (fieldRefusal r) r
-
+-- the record of a kind in some bytes, by its fields' refusal
 unfoldable pub checked : Kind → List ℕ → Answer Record
-checked k bytes = checkedAs (recordIn k bytes)
+checked k bytes = answered (fieldRefusal (recordIn k bytes)) (recordIn k bytes)
 
 -- no place is left for one more of a kind; a bar takes none
 unfoldable pub fullBy : Counts → Kind → Bool

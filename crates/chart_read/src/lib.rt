@@ -5,9 +5,9 @@ use chart::Triple;
 ghost use mathlib.Core.Path.{_≡_};
 ghost use Prim.Native.Nat.{_≤_};
 ghost use lib.ListN.{length, drop};
-ghost use Rattle.rules.specs.File.{stroke, strokeIn, kindOf, width, readRecord, readFile};
+ghost use Rattle.rules.specs.File.{kindOf, width, readRecord, readFile};
 ghost use Rattle.chart_read.specs.Loaded.{loaded};
-ghost use Rattle.chart_read.specs.Heads.{levelKind, kindBy, markedBy, answerOf, checkedAs, checked, fullBy};
+ghost use Rattle.chart_read.specs.Heads.{levelKind, strokeKind, rollBy, kindBy, markedBy, answerOf, checked, fullBy};
 
 // A number, 0 where the file is accepted; the place of the refused record's mark, 0 where none is refused. The chart, which beside a
 // refusal is free, and how many BR records were passed over, 0 beside a refusal.
@@ -25,10 +25,9 @@ enum Level {
     Superior,
 }
 
-// The kinds of record. A rolled stroke has a mark of its own.
+// The kinds of record. Whether a stroke is rolled its mark tells.
 enum Mark {
-    Stroke,
-    Rolled,
+    Stroke(bool),
     Triple(Level),
     Bar,
 }
@@ -88,10 +87,10 @@ fn mark_of(a: u8, b: u8) -> MarkRead
     }
     if a == b'S' {
         if b == b'T' {
-            return MarkRead::Mark(Mark::Stroke);
+            return MarkRead::Mark(Mark::Stroke(false));
         }
         if b == b'R' {
-            return MarkRead::Mark(Mark::Rolled);
+            return MarkRead::Mark(Mark::Stroke(true));
         }
         if b == b'G' {
             return MarkRead::Mark(Mark::Triple(Level::Segment));
@@ -108,8 +107,7 @@ fn width_of(m: Mark) -> usize
     ensures { λ r. ⌜ r ≡ width (kindBy m) ⌝ }
 {
     match m {
-        Mark::Stroke => 21,
-        Mark::Rolled => 21,
+        Mark::Stroke(_) => 21,
         Mark::Triple(_) => 5,
         Mark::Bar => 16,
     }
@@ -131,8 +129,7 @@ fn is_full(counts: Counts, m: Mark) -> bool
     ensures { λ r. ⌜ r ≡ fullBy counts (kindBy m) ⌝ }
 {
     match m {
-        Mark::Stroke => 512 <= counts.strokes,
-        Mark::Rolled => 512 <= counts.strokes,
+        Mark::Stroke(_) => 512 <= counts.strokes,
         Mark::Triple(l) => level_full(counts, l),
         Mark::Bar => false,
     }
@@ -150,12 +147,19 @@ fn checked_triple(s: &[u8], l: Level) -> Head
     Head::Triple(l, triple)
 }
 
-// The stroke with the roll byte that its mark tells, where its direction and its prices are.
-fn checked_stroke(s: &[u8], roll: u8) -> Head
-    requires { ⌜ 21 ≤ length (now s) ⌝ }
-    ensures { λ r. ⌜ answerOf r (now (s .entry)) ≡ checkedAs (stroke (strokeIn roll (now (s .entry)))) ⌝ }
+// The roll byte of a stroke.
+fn roll_of(rolled: bool) -> u8
+    ensures { λ r. ⌜ r ≡ rollBy rolled ⌝ }
 {
-    let stroke = fields::stroke_in(s, roll);
+    if rolled { 1 } else { 0 }
+}
+
+// The stroke, where its direction and its prices are.
+fn checked_stroke(s: &[u8], rolled: bool) -> Head
+    requires { ⌜ 21 ≤ length (now s) ⌝ }
+    ensures { λ r. ⌜ answerOf r (now (s .entry)) ≡ checked (strokeKind rolled) (now (s .entry)) ⌝ }
+{
+    let stroke = fields::stroke_in(s, roll_of(rolled));
     if 1 < stroke.direction {
         return Head::Refused(2);
     }
@@ -171,8 +175,7 @@ fn checked_record(s: &[u8], m: Mark) -> Head
     ensures { λ r. ⌜ answerOf r (now (s .entry)) ≡ checked (kindBy m) (now (s .entry)) ⌝ }
 {
     match m {
-        Mark::Stroke => checked_stroke(s, 0),
-        Mark::Rolled => checked_stroke(s, 1),
+        Mark::Stroke(rolled) => checked_stroke(s, rolled),
         Mark::Triple(l) => checked_triple(s, l),
         Mark::Bar => Head::Bar,
     }
