@@ -35,12 +35,15 @@ pub const NO_TRIPLE: Triple = Triple {
     last: 0,
 };
 
-// What a big covers: the smaller and the larger of its two prices, and its bars. (BigSegRange)
+// What a big covers: the smaller and the larger of its two prices, and its bars. Added: which of these bars gave the low, and which the high.
+// (BigSegRange)
 pub struct Span {
     pub low: f64,
     pub high: f64,
     pub start_bar: u16,
     pub end_bar: u16,
+    pub low_bar: u16,
+    pub high_bar: u16,
 }
 
 // The range of a big. A missing one is an answer that each caller takes apart first. (Option<BigSegRange>)
@@ -56,7 +59,7 @@ pub enum EndPoint {
 }
 
 // An overlap zone: the index of its superior, its bars and its four prices. Added: the index among the bigs of its first member,
-// and how many opposing bigs of the superior, in order from that one, are its members. (BigSegmentZhongShu)
+// how many opposing bigs of the superior, in order from that one, are its members, and the bars of dd and gg. (BigSegmentZhongShu)
 pub struct Zone {
     pub sup_idx: u16,
     pub start_bar: u16,
@@ -67,6 +70,8 @@ pub struct Zone {
     pub gg: f64,
     pub first_member: u16,
     pub members: u16,
+    pub dd_bar: u16,
+    pub gg_bar: u16,
 }
 
 pub const NO_ZONE: Zone = Zone {
@@ -79,6 +84,8 @@ pub const NO_ZONE: Zone = Zone {
     gg: 0.0,
     first_member: 0,
     members: 0,
+    dd_bar: 0,
+    gg_bar: 0,
 };
 
 // What a third mark beat: the edge of a zone, zg for a buy and zd for a sell, or the price C of an anchor.

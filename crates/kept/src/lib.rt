@@ -35,6 +35,8 @@ fn same_zone(a: Zone, b: Zone) -> bool
         & same_price(a.gg, b.gg)
         & (a.first_member == b.first_member)
         & (a.members == b.members)
+        & (a.dd_bar == b.dd_bar)
+        & (a.gg_bar == b.gg_bar)
 }
 
 // Whether the first n of some zones are the first m of others.

@@ -4,29 +4,32 @@ use native.Mathlib.Omega.{arith}
 use native.Mathlib.Nat.{add-zero, zero-add}
 use mathlib.Core.Path.{_≡_, refl, sym, ap, _∙_, subst}
 use mathlib.Core.Bool.{Bool, true, false, cond}
-use mathlib.Core.List.{List, [], _∷_, _++_, map, append-assoc, List·Memᴰ, List·Memᴰ·not-nil}
+use mathlib.Core.List.{List, [], _∷_, _++_, map, foldl, append-assoc, List·Memᴰ, List·Memᴰ·not-nil}
 use mathlib.Core.Option.{Option, none, some}
 use lib.ListN.{length, take, getElem?, length-append, length-map}
 use lib.Seq.{take-at}
 use lib.Dec.{leb, ltb}
+use lib.Ieee.{Float, lt}
 use borrow.Author.Tests.{lt-ltb}
 use Rattle.chart.specs.declared.Triple.{Triple}
 use Rattle.chart.specs.declared.Span.{Span}
 use Rattle.chart.specs.declared.Range.{Range}
 use Rattle.chart.specs.declared.Range.the-variants.{Found}
 use Rattle.chart.specs.declared.Zone.{Zone}
+use Rattle.price.specs.Price.{Price, lower, higher}
 use Rattle.rules.specs.Lists.{keep, each}
-use Rattle.rules.specs.Zones.{runs, opposingOf, zonesOf, zonesFrom, membersIn}
+use Rattle.rules.specs.Zones.{Member, lowBar, highBar, runs, within, opposingOf, zonesOf, zonesFrom, membersIn}
 use Rattle.rules.specs.Refusals.{brokenTriples}
-use Rattle.rules.specs.Claims.{Opposes, MemberAt, OneZone}
+use Rattle.rules.specs.Claims.{Opposes, MemberAt, OneZone, RangeAt, Extreme, Extremes}
 use Rattle.laws.proofs.Tests.{none-some}
 use Rattle.laws.proofs.Lists.{All, nil, cons, all-map, all-append, all-cond, all-at, all-image, at-left, at-right, in-take, in-keep}
-use Rattle.laws.proofs.Lists.{map-append, map-at, at-map, each-append, in-each, each-in, all-both}
+use Rattle.laws.proofs.Lists.{map-append, map-at, at-map, each-append, in-each, each-in, each-all, all-both, in-map, map-in, all-in}
 use Rattle.laws.proofs.Triples.{follows, cons-of, triple-in}
-use Rattle.laws.proofs.Runs.{Part, members, Owned, zoneOf, partsOf, runs-split}
-use Rattle.laws.proofs.Bounds.{GoodRange, Bounded, runs-bounded}
+use Rattle.laws.proofs.Runs.{Part, members, Point, Owned, zoneOf, partsOf, runs-split}
+use Rattle.laws.proofs.Extremes.{Linear, lower-first, higher-first, best, fold-in, fold-beats}
+use Rattle.laws.proofs.Bounds.{GoodRange, GoodMember, Bounded, runs-bounded}
 use Rattle.laws.proofs.Rising.{Between, between-lower, between-append, between-rest, between-length, between-apart, between-once, keep-from}
-use Rattle.laws.proofs.Opposing.{index, owner-good, owner-rise, in-opposes, opposes-in}
+use Rattle.laws.proofs.Opposing.{index, Ranged, owner-good, owner-ranged, owner-between, owner-rise, in-opposes, opposes-in}
 
 -- ---- parts
 
@@ -94,6 +97,59 @@ taken lo hi l a (p ∷ ps) h e = cons first (taken lo hi l (a ++ idsOf p) ps h (
         rw (e, keep-from lo hi (p .first .index) a (map index (p .later) ++ each idsOf ps) (rw e at h))
         (take-at (idsOf p) (each idsOf ps) (suc (length (p .later))) (length-map (members p) index))
 
+-- ---- the bars of dd and gg
+
+abbrev pointOf : (Span → Float) → (Span → ℕ) → Member → Point
+pointOf price bar m = record { price = price (m .span); bar = bar (m .span) }
+
+module _ (range : Triple → Range) (level : List Triple) (p : Part) (ranged : All (Ranged range level) (members p)) where
+  -- two ranges of one record are the same
+  one-range : (j : ℕ) (s t : Span) → RangeAt range level j s → RangeAt range level j t → s ≡ t
+  one-range j s t a b = let same : a .item ≡ b .item = cc in cc
+
+  -- the best of a price that each member has
+  abbrev bestOf : (Float → Float → Bool) → (Span → Float) → (Span → ℕ) → Point
+  bestOf beyond price bar = foldl (best beyond) (pointOf price bar (p .first)) (map (pointOf price bar) (p .later))
+
+  part-extreme :
+      (beyond : Float → Float → Bool) → Linear beyond → (price : Span → Float) (bar : Span → ℕ)
+      → All (λ (m : Member). Price (price (m .span))) (members p)
+      → Extreme range level (idsOf p) price bar (bestOf beyond price bar .price) (bestOf beyond price bar .bar)
+  part-extreme beyond order price bar (cons q qs) =
+      let point : Member → Point = pointOf price bar in
+      let t = in-map point (members p) _ (fold-in beyond order (point (p .first)) (map point (p .later)) q (all-image point qs)) in
+      record {
+        member = t .0 .index;
+        span = t .0 .span;
+        is-member = map-in index (t .1);
+        its-range = all-in ranged (t .1);
+        its-price = ap (λ (x : Point). x .price) (t .2);
+        its-bar = ap (λ (x : Point). x .bar) (t .2);
+        smallest =
+            λ j s i r e.
+            let n = in-map index (members p) j i in
+            let here = subst (λ (k : ℕ). RangeAt range level k (n .0 .span)) (n .2) (all-in ranged (n .1)) in
+            let same = one-range j s (n .0 .span) r here in
+            let beats = all-in (fold-beats beyond order (point (p .first)) (map point (p .later)) q (all-image point qs)) (map-in point (n .1)) in
+            subst (λ (x : Span). bestOf beyond price bar .bar ≤ bar x) (sym same) (beats .smaller (ap price (sym same) ∙ e));
+      }
+
+  pub part-extremes : (of : Zone → List ℕ) → of (zoneOf p) ≡ idsOf p → All GoodMember (members p) → Extremes range level of (zoneOf p)
+  unfolding zoneOf lower higher lowBar highBar
+  part-extremes of known good =
+      let low : Span → Float = λ s. s .low in
+      let low-bar : Span → ℕ = λ s. s .«low_bar» in
+      let high : Span → Float = λ s. s .high in
+      let high-bar : Span → ℕ = λ s. s .«high_bar» in
+      record {
+        low =
+            subst (λ (ids : List ℕ). Extreme range level ids low low-bar (zoneOf p .dd) (zoneOf p .«dd_bar»)) (sym known)
+            (part-extreme lt lower-first low low-bar (all-map (λ m g. g .low-price) good));
+        high =
+            subst (λ (ids : List ℕ). Extreme range level ids high high-bar (zoneOf p .gg) (zoneOf p .«gg_bar»)) (sym known)
+            (part-extreme (λ (a b : Float). lt b a) higher-first high high-bar (all-map (λ m g. g .high-price) good));
+      }
+
 -- the least index behind the owner before
 abbrev next : Option Triple → ℕ
 next none = 0
@@ -128,6 +184,18 @@ module _ (range : Triple → Range) (level : List Triple) where
   unfolding partsOver zonesFrom
   over-zones h [] = refl
   over-zones h (s ∷ ss) = rw (map-append zoneOf (partsIn h s) (partsOver (suc h) ss), in-zones h s, over-zones (suc h) ss)
+
+  -- what holds of the opposing records of every owner holds of the members of every part
+  over-all :
+      {P : Member → Type 0} → ((s : Triple) → All P (opposingOf range level s)) → (h : ℕ) (ss : List Triple)
+      → All (λ (p : Part). All P (members p)) (partsOver h ss)
+  unfolding partsOver partsIn
+  over-all of h [] = nil
+  over-all {P} of h (s ∷ ss) =
+      let ms = opposingOf range level s in
+      all-append
+      (all-cond (ltb (s .last) (length level)) (each-all members (partsOf h ms) (subst (All P) (sym (runs-split h ms .whole)) (of s))) nil)
+      (over-all of (suc h) ss)
 
   -- dd ≤ zd ≤ zg ≤ gg, of prices, owners in order or not
   pub level-bounded : ((t : Triple) → GoodRange (range t)) → (h : ℕ) (ss : List Triple) → All Bounded (zonesFrom range level h ss)
@@ -202,6 +270,40 @@ module _ (range : Triple → Range) (level : List Triple) where
     unfolding membersIn zoneOf
     known h s p e k t = rw (membersIn, k, e) t
 
+    over-known :
+        (h : ℕ) (ss : List Triple) → ((i : ℕ) → getElem? owners (h + i) ≡ getElem? ss i) → All Known (partsOver h ss)
+    unfolding partsOver partsIn
+    over-known h [] f = nil
+    over-known h (s ∷ ss) f =
+        let ms = opposingOf range level s in
+        let ps = partsOf h ms in
+        let here : getElem? owners h ≡ some s = rw add-zero at (f 0) in
+        let took = taken (s .first) (s .first + length (within level s)) (map index ms) [] ps (owner-between range level s) (sym (parts-ids h s)) in
+        all-append {xs = partsIn h s}
+        (all-cond (ltb (s .last) (length level)) (all-both (λ r k t. known h s r here k t) (runs-split h ms .owners) took) nil)
+        (over-known (suc h) ss next-owner)
+      where
+        next-owner : (i : ℕ) → getElem? owners (suc h + i) ≡ getElem? ss i
+        next-owner i = let same : h + suc i ≡ suc h + i = omega arith in rw same at (f (suc i))
+
+    parts-known : All Known (partsOver 0 owners)
+    parts-known = over-known 0 owners (λ (i : ℕ). rw zero-add)
+
+    -- each zone has as many members as it says
+    pub level-members : All (λ (z : Zone). length (membersIn range level owners z) ≡ z .members) (zonesFrom range level 0 owners)
+    unfolding zoneOf
+    level-members = rw (← over-zones 0 owners) (all-image zoneOf (all-map (λ p k. ap length k ∙ length-map (members p) index) parts-known))
+
+    -- and the bars of dd and gg are the smallest of its members that have these prices, where ranges are of prices
+    pub level-extremes : ((t : Triple) → GoodRange (range t)) → All (Extremes range level (membersIn range level owners)) (zonesFrom range level 0 owners)
+    level-extremes good =
+        let ranged : All (λ (p : Part). Known p × All (Ranged range level) (members p)) (partsOver 0 owners) =
+        all-both (λ p k r. (k, r)) parts-known (over-all (owner-ranged range level) 0 owners) in
+        rw (← over-zones 0 owners)
+        (all-image zoneOf
+        (all-both (λ p h g. part-extremes range level p (h .1) (membersIn range level owners) (h .0) g) ranged
+        (over-all (owner-good range level good) 0 owners)))
+
     -- ---- owners in order
     module _ (order : brokenTriples (length level) none owners ≡ false) where
       parts-rise : Between 0 (length level) (each idsOf (partsOver 0 owners))
@@ -212,31 +314,6 @@ module _ (range : Triple → Range) (level : List Triple) where
           let ps = partsOver 0 owners in
           let k = between-length 0 (length level) (each idsOf ps) parts-rise in
           rw (← over-zones 0 owners) (omega (arith, parts-length ps, length-map ps zoneOf))
-
-      over-known :
-          (h : ℕ) (p : Option Triple) (ss : List Triple) → brokenTriples (length level) p ss ≡ false
-          → ((i : ℕ) → getElem? owners (h + i) ≡ getElem? ss i) → All Known (partsOver h ss)
-      unfolding partsOver
-      over-known h p [] e f = nil
-      over-known h p (s ∷ ss) e f =
-          let q = cons-of (length level) p s ss e in
-          let ms = opposingOf range level s in
-          let ps = partsOf h ms in
-          let here : getElem? owners h ≡ some s = rw add-zero at (f 0) in
-          let took = taken (s .first) (suc (s .last)) (map index ms) [] ps (owner-rise range level s (q .good .upright) (q .inside)) (sym (parts-ids h s)) in
-          all-append {xs = partsIn h s} (rw (in-parts h s (q .inside)) (all-both (λ r k t. known h s r here k t) (runs-split h ms .owners) took))
-          (over-known (suc h) (some s) ss (q .rest) next-owner)
-        where
-          next-owner : (i : ℕ) → getElem? owners (suc h + i) ≡ getElem? ss i
-          next-owner i = let same : h + suc i ≡ suc h + i = omega arith in rw same at (f (suc i))
-
-      parts-known : All Known (partsOver 0 owners)
-      parts-known = over-known 0 none owners order (λ (i : ℕ). rw zero-add)
-
-      -- each zone has as many members as it says
-      pub level-members : All (λ (z : Zone). length (membersIn range level owners z) ≡ z .members) (zonesFrom range level 0 owners)
-      unfolding zoneOf
-      level-members = rw (← over-zones 0 owners) (all-image zoneOf (all-map (λ p k. ap length k ∙ length-map (members p) index) parts-known))
 
       member-part : (j n : ℕ) → MemberAt (zonesFrom range level 0 owners) (membersIn range level owners) j n → PartAt (partsOver 0 owners) j n
       member-part j n m =

@@ -3,6 +3,7 @@ pub mod Lists
 pub mod Ordered
 pub mod Triples
 pub mod Runs
+pub mod Extremes
 pub mod Bounds
 pub mod Rising
 pub mod Ranges

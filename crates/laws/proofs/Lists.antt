@@ -3,7 +3,7 @@
 use Prim.Native.Nat.{ℕ, zero, suc, _+_, _<_, _≤_}
 use native.Mathlib.Omega.{arith}
 use native.Mathlib.Nat.{zero-add}
-use mathlib.Core.Path.{_≡_, refl, sym, subst}
+use mathlib.Core.Path.{_≡_, refl, sym, subst, ap}
 use mathlib.Core.Logic.{_⊎_, inl, inr}
 use mathlib.Core.Bool.{Bool, true, false, cond, _||_, false≢true}
 use mathlib.Core.List.{List, [], _∷_, _++_, map, append-assoc, List·Memᴰ, List·Memᴰ·head, List·Memᴰ·tail, List·Memᴰ·not-nil, List·Memᴰ·append-cases}
@@ -289,6 +289,15 @@ module _ {A B : Type 0} where
   at-map f [] i y e = absurd (none-some e)
   at-map f (x ∷ xs) zero y e = (x, refl, cc)
   at-map f (x ∷ xs) (suc i) y e = at-map f xs i y e
+
+  pub in-map : (f : A → B) (xs : List A) (y : B) → List·Memᴰ y (map f xs) → (x : A) × List·Memᴰ x xs × (f x ≡ y)
+  in-map f [] y m = absurd (List·Memᴰ·not-nil m)
+  in-map f (x ∷ xs) y (List·Memᴰ·head e) = (x, List·Memᴰ·head refl, sym e)
+  in-map f (x ∷ xs) y (List·Memᴰ·tail m) = let t = in-map f xs y m in (t .0, List·Memᴰ·tail (t .1), t .2)
+
+  pub map-in : (f : A → B) {xs : List A} {x : A} → List·Memᴰ x xs → List·Memᴰ (f x) (map f xs)
+  map-in f (List·Memᴰ·head e) = List·Memᴰ·head (ap f e)
+  map-in f (List·Memᴰ·tail m) = List·Memᴰ·tail (map-in f m)
 
   pub then-some : (o : Option A) (f : A → Option B) (y : B) → andThen o f ≡ some y → (x : A) × (o ≡ some x) × (f x ≡ some y)
   then-some none f y e = absurd (none-some e)

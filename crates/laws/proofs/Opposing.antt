@@ -15,7 +15,7 @@ use Rattle.chart.specs.declared.Span.{Span}
 use Rattle.chart.specs.declared.Range.{Range}
 use Rattle.chart.specs.declared.Range.the-variants.{Found, Missing}
 use Rattle.rules.specs.Zones.{Member, opposing, within, opposingOf}
-use Rattle.rules.specs.Claims.{Opposes}
+use Rattle.rules.specs.Claims.{Opposes, RangeAt}
 use Rattle.laws.proofs.Tests.{none-some}
 use Rattle.laws.proofs.Lists.{All, nil, cons, at-drop, at-take, at-taken}
 use Rattle.laws.proofs.Bounds.{GoodRange, GoodMember}
@@ -23,6 +23,10 @@ use Rattle.laws.proofs.Rising.{Between, between-lower}
 
 abbrev pub index : Member → ℕ
 index m = m .index
+
+-- a member is a record of the level, with its range
+abbrev pub Ranged : (Triple → Range) → List Triple → Member → Type 0
+Ranged range level m = RangeAt range level (m .index) (m .span)
 
 -- ---- the opposing ones among some records, the first of which has index k
 
@@ -66,6 +70,18 @@ module _ (range : Triple → Range) where
       let rest = opposing-good good d (suc k) bs in
       opposing-more (All GoodMember) d k b bs rest (λ e s f. cons (subst GoodRange f (good b)) rest)
 
+  -- each is a record of the level, with its range
+  opposing-ranged :
+      (level : List Triple) (d k : ℕ) (bs : List Triple) → ((i : ℕ) (b : Triple) → getElem? bs i ≡ some b → getElem? level (k + i) ≡ some b)
+      → All (Ranged range level) (opposing range d k bs)
+  unfolding opposing
+  opposing-ranged level d k [] f = nil
+  opposing-ranged level d k (b ∷ bs) f =
+      let next : (i : ℕ) → k + suc i ≡ suc k + i = λ i. omega arith in
+      let rest = opposing-ranged level d (suc k) bs (λ i x e. rw (next i) at (f (suc i) x e)) in
+      opposing-more (All (Ranged range level)) d k b bs rest
+      (λ e s g. cons (record { item = b; item-at = rw add-zero at (f 0 b refl); found = g }) rest)
+
   opposing-in :
       (d k i : ℕ) (bs : List Triple) (b : Triple) (s : Span)
       → getElem? bs i ≡ some b → eqb (b .direction) d ≡ false → range b ≡ Found s → List·Memᴰ (k + i) (map index (opposing range d k bs))
@@ -102,12 +118,23 @@ module _ (range : Triple → Range) (level : List Triple) where
   unfolding opposingOf
   owner-good good s = opposing-good range good (s .direction) (s .first) (within level s)
 
-  -- their indices rise
-  pub owner-rise : (s : Triple) → s .first ≤ s .last → s .last < length level → Between (s .first) (suc (s .last)) (map index (opposingOf range level s))
+  pub owner-ranged : (s : Triple) → All (Ranged range level) (opposingOf range level s)
   unfolding opposingOf within
+  owner-ranged s =
+      let n = suc (s .last) - s .first in
+      opposing-ranged range level (s .direction) (s .first) (within level s)
+      (λ i b e. sym (at-drop (s .first) i level) ∙ at-taken n i (drop (s .first) level) b e .1)
+
+  -- their indices rise
+  pub owner-between : (s : Triple) → Between (s .first) (s .first + length (within level s)) (map index (opposingOf range level s))
+  unfolding opposingOf
+  owner-between s = opposing-between range (s .direction) (s .first) (within level s)
+
+  pub owner-rise : (s : Triple) → s .first ≤ s .last → s .last < length level → Between (s .first) (suc (s .last)) (map index (opposingOf range level s))
+  unfolding within
   owner-rise s h k =
       let long : s .first + length (within level s) ≡ suc (s .last) = simp (length-take, length-drop) (omega arith) in
-      rw long at (opposing-between range (s .direction) (s .first) (within level s))
+      rw long at (owner-between s)
 
   module _ (owners : List Triple) where
     -- each opposes

@@ -14,7 +14,7 @@ use borrow.Author.Tests.{ne-eqb}
 use Rattle.chart.specs.declared.Zone.{Zone}
 use Rattle.price.specs.Price.{lower, higher}
 use Rattle.rules.specs.Lists.{each}
-use Rattle.rules.specs.Zones.{Member, begin, joins, join, cut, runs}
+use Rattle.rules.specs.Zones.{Member, lowBar, highBar, begin, joins, join, cut, runs}
 use Rattle.laws.proofs.Lists.{All, nil, cons, map-append}
 
 -- members of one owner that stand together: the first one, and the later ones
@@ -32,6 +32,24 @@ low m = m .span .low
 abbrev pub high : Member → Float
 high m = m .span .high
 
+-- a price with its bar: a member's low, and its high
+pub record Point : Type 0 where
+  pub price : Float
+  pub bar : ℕ
+
+abbrev pub lowPoint : Member → Point
+lowPoint m = record { price = m .span .low; bar = m .span .«low_bar» }
+
+abbrev pub highPoint : Member → Point
+highPoint m = record { price = m .span .high; bar = m .span .«high_bar» }
+
+-- of two, the lower one and the higher one, on equal prices with the smaller bar
+abbrev pub lowest : Point → Point → Point
+lowest a b = record { price = lower (a .price) (b .price); bar = lowBar (a .price) (a .bar) (b .price) (b .bar) }
+
+abbrev pub highest : Point → Point → Point
+highest a b = record { price = higher (a .price) (b .price); bar = highBar (a .price) (a .bar) (b .price) (b .bar) }
+
 -- the last of some members
 abbrev pub final : Member → List Member → Member
 final = foldl (λ (m n : Member). n)
@@ -41,7 +59,8 @@ unfoldable pub edge : (Float → Float → Float) → Float → List Float → F
 edge f a [] = a
 edge f a (b ∷ bs) = f a b
 
--- The zone of a part. zd is the higher of its first two lows, zg the lower of its first two highs; of one member, its low and high
+-- The zone of a part. zd is the higher of its first two lows, zg the lower of its first two highs; of one member, its low and high. dd and gg, with
+-- their bars, are the lowest of its lows and the highest of its highs
 unfoldable pub zoneOf : Part → Zone
 zoneOf p =
     record {
@@ -50,10 +69,12 @@ zoneOf p =
       «end_bar» = final (p .first) (p .later) .span .«end_bar»;
       zd = edge higher (low (p .first)) (map low (p .later));
       zg = edge lower (high (p .first)) (map high (p .later));
-      dd = foldl lower (low (p .first)) (map low (p .later));
-      gg = foldl higher (high (p .first)) (map high (p .later));
+      dd = foldl lowest (lowPoint (p .first)) (map lowPoint (p .later)) .price;
+      gg = foldl highest (highPoint (p .first)) (map highPoint (p .later)) .price;
       «first_member» = p .first .index;
       members = suc (length (p .later));
+      «dd_bar» = foldl lowest (lowPoint (p .first)) (map lowPoint (p .later)) .bar;
+      «gg_bar» = foldl highest (highPoint (p .first)) (map highPoint (p .later)) .bar;
     }
 
 -- ---- the parts
@@ -97,8 +118,10 @@ zone-with p m =
       foldl-append (λ (a b : Member). b) (p .first) (p .later) (m ∷ []),
       edge-snoc higher low (low (p .first)) (p .later) m,
       edge-snoc lower high (high (p .first)) (p .later) m,
-      foldl-append lower (low (p .first)) (map low (p .later)) (low m ∷ []),
-      foldl-append higher (high (p .first)) (map high (p .later)) (high m ∷ []),
+      map-append lowPoint (p .later) (m ∷ []),
+      map-append highPoint (p .later) (m ∷ []),
+      foldl-append lowest (lowPoint (p .first)) (map lowPoint (p .later)) (lowPoint m ∷ []),
+      foldl-append highest (highPoint (p .first)) (map highPoint (p .later)) (highPoint m ∷ []),
       length-append (p .later) (m ∷ []),
       add-one (length (p .later)),
     )

@@ -39,7 +39,7 @@ agree-same (x ∷ xs) = rw (eq-eqb x x refl) (agree-same xs)
 abbrev numbers : Zone → List ℕ
 numbers z =
     z .«sup_idx» ∷ z .«start_bar» ∷ z .«end_bar» ∷ toBits binary64 (z .zd) ∷ toBits binary64 (z .zg) ∷ toBits binary64 (z .dd)
-    ∷ toBits binary64 (z .gg) ∷ z .«first_member» ∷ z .members ∷ []
+    ∷ toBits binary64 (z .gg) ∷ z .«first_member» ∷ z .members ∷ z .«dd_bar» ∷ z .«gg_bar» ∷ []
 
 abbrev zoneOf : List ℕ → Zone
 zoneOf ns =
@@ -53,6 +53,8 @@ zoneOf ns =
       gg = ofBits binary64 (getD ns 6 0);
       «first_member» = getD ns 7 0;
       members = getD ns 8 0;
+      «dd_bar» = getD ns 9 0;
+      «gg_bar» = getD ns 10 0;
     }
 
 abbrev pub Holds : Float → Type 0

@@ -11,12 +11,12 @@ use Rattle.rules.specs.Records.{Levels}
 use Rattle.rules.specs.Ranges.{rangeOf}
 use Rattle.rules.specs.Zones.{overlapZones, membersOf}
 use Rattle.rules.specs.Refusals.{refuse, badLevels, brokenLevels, zonesRefusal}
-use Rattle.rules.specs.Claims.{Opposes, OneZone, Edges}
+use Rattle.rules.specs.Claims.{Opposes, OneZone, Edges, Extremes}
 use Rattle.laws.proofs.Lists.{All, all-map}
 use Rattle.laws.proofs.Ordered.{unbroken}
 use Rattle.laws.proofs.Bounds.{Bounded, edges}
 use Rattle.laws.proofs.Ranges.{range-good, range-found}
-use Rattle.laws.proofs.Layer.{level-bounded, members-oppose, level-one, level-members, level-count}
+use Rattle.laws.proofs.Layer.{level-bounded, members-oppose, level-members, level-extremes, level-one, level-count}
 
 module _ (c : Levels) where
   -- ---- of a loaded chart, in order or not
@@ -34,6 +34,16 @@ module _ (c : Levels) where
   unfolding membersOf
   zone-opposes = members-oppose (rangeOf c) (c .bigs) (c .superiors)
 
+  -- each zone has as many members as it says
+  pub zones-members : All (λ (z : Zone). length (membersOf c z) ≡ z .members) (overlapZones c)
+  unfolding overlapZones membersOf
+  zones-members = level-members (rangeOf c) (c .bigs) (c .superiors)
+
+  -- and its bars of dd and gg are the smallest of the members that have these prices
+  pub zones-extremes : badLevels c ≡ false → All (Extremes (rangeOf c) (c .bigs) (membersOf c)) (overlapZones c)
+  unfolding overlapZones membersOf
+  zones-extremes h = level-extremes (rangeOf c) (c .bigs) (c .superiors) (range-good c h)
+
   -- ---- of levels in order
 
   module _ (order : brokenLevels c ≡ false) where
@@ -41,11 +51,6 @@ module _ (c : Levels) where
     pub one-zone : (h j : ℕ) → Opposes (c .bigs) (c .superiors) h j → OneZone (overlapZones c) (membersOf c) h j
     unfolding overlapZones membersOf
     one-zone = level-one (rangeOf c) (c .bigs) (c .superiors) (unbroken c order .superiors) (range-found c order)
-
-    -- each zone has as many members as it says
-    pub zones-members : All (λ (z : Zone). length (membersOf c z) ≡ z .members) (overlapZones c)
-    unfolding overlapZones membersOf
-    zones-members = level-members (rangeOf c) (c .bigs) (c .superiors) (unbroken c order .superiors)
 
     pub zones-count : length (overlapZones c) ≤ length (c .bigs)
     unfolding overlapZones

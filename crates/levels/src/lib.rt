@@ -6,7 +6,7 @@ use chart::Span;
 use chart::Stroke;
 use chart::Triple;
 ghost use mathlib.Core.Path.{_≡_};
-ghost use mathlib.Core.Bool.{true, false, _||_};
+ghost use mathlib.Core.Bool.{true, false, cond, _||_};
 ghost use mathlib.Core.Option.{some};
 ghost use Prim.Native.Nat.{_≤_, _<_};
 ghost use lib.Dec.{ltb};
@@ -129,6 +129,13 @@ pub fn within(i: u16, n: u16) -> usize
     (i % n) as usize
 }
 
+// The end bar where its price is beyond the start's, and else the start bar.
+fn bar_of(beyond: bool, end_bar: u16, start_bar: u16) -> u16
+    ensures { λ r. ⌜ r ≡ cond beyond «end_bar» «start_bar» ⌝ }
+{
+    if beyond { end_bar } else { start_bar }
+}
+
 // From the start of one stroke to the end of another.
 fn span_of(s: Stroke, e: Stroke) -> Range
     ensures { λ r. ⌜ r ≡ spanned (some s) (some e) ⌝ }
@@ -138,6 +145,8 @@ fn span_of(s: Stroke, e: Stroke) -> Range
         high: price::higher(s.start_price, e.end_price),
         start_bar: s.start_bar,
         end_bar: e.end_bar,
+        low_bar: bar_of(e.end_price < s.start_price, e.end_bar, s.start_bar),
+        high_bar: bar_of(s.start_price < e.end_price, e.end_bar, s.start_bar),
     })
 }
 

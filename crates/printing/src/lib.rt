@@ -94,6 +94,8 @@ fn print_range(range: Range) {
             print_number(span.end_bar);
             print_price(span.low);
             print_price(span.high);
+            print_number(span.low_bar);
+            print_number(span.high_bar);
         }
         Range::Missing => {
             io::write_all(1, b"missing ");
@@ -131,7 +133,9 @@ fn print_zone(word: &[u8], z: Zone) {
     print_price(z.dd);
     print_price(z.gg);
     print_number(z.first_member);
-    io::print_decimal(1, z.members as u64);
+    print_number(z.members);
+    print_number(z.dd_bar);
+    io::print_decimal(1, z.gg_bar as u64);
     io::write_all(1, b"\n");
 }
 

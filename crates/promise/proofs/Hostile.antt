@@ -12,6 +12,7 @@ use lib.Ieee.{Float, lt, le}
 use lib.Seq.{take-all}
 use Rattle.chart.specs.declared.Stroke.{Stroke}
 use Rattle.chart.specs.declared.Triple.{Triple}
+use Rattle.chart.specs.declared.Span.{Span}
 use Rattle.chart.specs.declared.Zone.{Zone}
 use Rattle.chart.specs.declared.Ground.the-variants as ground
 use Rattle.chart.specs.declared.ThirdMark.{ThirdMark}
@@ -20,6 +21,7 @@ use Rattle.price.specs.Price.{Price}
 use Rattle.price.proofs.Order.{keys, tests}
 use Rattle.rules.specs.Answer.{refused, rowsAnswer}
 use Rattle.rules.specs.Records.{isUp, Levels, levelsOf, Quotes}
+use Rattle.rules.specs.Ranges.{rangeOf}
 use Rattle.rules.specs.Zones.{overlapZones, membersOf}
 use Rattle.rules.specs.Marks.{
   quote,
@@ -39,7 +41,7 @@ use Rattle.rules.specs.Refusals.{refuse, overfull, badChart, badLive, badSlices
 use Rattle.rules.specs.Calls.{onChart, thirdCall, nCall}
 use Rattle.rules.specs.Machine.{Call}
 use Rattle.rules.specs.Live.{view, liveRefusal, after}
-use Rattle.rules.specs.Claims.{Opposes, MemberAt, named, From, Stems, of-third, of-superior, of-anchor}
+use Rattle.rules.specs.Claims.{Opposes, MemberAt, RangeAt, named, From, Stems, of-third, of-superior, of-anchor}
 use Rattle.rules.proofs.Computing.{everything}
 use Rattle.rules.proofs.Charts.{triple, zoneThird, mark}
 use Rattle.rules.proofs.ChartK.{K, barsOf, barsK}
@@ -177,6 +179,20 @@ module _ (ks : List Call) (ns : List ℕ) (d : Live) where
     -- a zone that says another number of members than it has, and one with a member that is no opposing big of its superior
     miscounted : length (membersOf (levelsIn d) z) ≢ z .members → Promise ks ns d → ⊥
     miscounted h p = h (p .members-are z there)
+
+    -- a zone whose bar of dd is that of a member, though another with this low has a smaller one; and one whose bar of gg no member with this high has
+    later-bar :
+        (j : ℕ) (s : Span) → List·Memᴰ j (membersOf (levelsIn d) z) → RangeAt (rangeOf (levelsIn d)) (levelsIn d .bigs) j s → s .low ≡ z .dd
+        → s .«low_bar» < z .«dd_bar» → Promise ks ns d → ⊥
+    later-bar j s m r e less p = omega (arith, p .extremes z there .low .smallest j s m r e)
+
+    bar-of-no-member :
+        ((j : ℕ) (s : Span) → List·Memᴰ j (membersOf (levelsIn d) z) → RangeAt (rangeOf (levelsIn d)) (levelsIn d .bigs) j s → s .high ≡ z .gg
+        → s .«high_bar» ≢ z .«gg_bar»)
+        → Promise ks ns d → ⊥
+    bar-of-no-member f p =
+        let t = p .extremes z there .high in
+        f (t .member) (t .span) (t .is-member) (t .its-range) (t .its-price) (t .its-bar)
 
     stranger : (j : ℕ) → List·Memᴰ j (membersOf (levelsIn d) z) → (Big (z .«sup_idx») j → ⊥) → Promise ks ns d → ⊥
     stranger j m h p = h (p .members-oppose z there j m)

@@ -19,7 +19,7 @@ use Rattle.rules.specs.Claims.{OneZone, Earlier, Apart}
 use Rattle.laws.proofs.Lists.{All, all-in}
 use Rattle.laws.proofs.Ordered.{InOrder, not-bad, not-broken}
 use Rattle.laws.proofs.Machine.{not-21-ordered, not-21-good}
-use Rattle.laws.proofs.Zones.{zones-edges, zone-opposes, one-zone, zones-members, never-11}
+use Rattle.laws.proofs.Zones.{zones-edges, zone-opposes, zones-members, zones-extremes, one-zone, never-11}
 use Rattle.laws.proofs.Thirds.{thirds-beyond}
 use Rattle.laws.proofs.Grounds.{thirds-traced}
 use Rattle.laws.proofs.Unique.{marks-apart}
@@ -89,9 +89,10 @@ left ks ns d a =
       as-machine = a;
       zones-are = z;
       one-zone = λ i j w. subst (λ (zs : List Zone). OneZone zs (membersOf l) i j) (sym z) (one-zone l (not-broken l o) i j w);
-      members-are = each-of z (zones-members l (not-broken l o));
+      members-are = each-of z (zones-members l);
       members-oppose = λ y m j w. zone-opposes l y j w;
       edges = each-of z (zones-edges l (not-bad l o));
+      extremes = each-of z (zones-extremes l (not-bad l o));
       third = third (d .chart) good o;
       three-n = three-n (d .chart) good o;
     }

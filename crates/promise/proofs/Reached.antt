@@ -48,6 +48,7 @@ use Rattle.rules.proofs.Charts.{
   strokesOf,
   one-each,
   levels,
+  chartOf,
   zone,
   quoted,
   zoneThird,
@@ -252,7 +253,7 @@ record Rolled : Type 0 where
   -- the byte is remembered, and without it the prices don't meet
   strokes : levelsIn (by .left) .strokes ≡ rolledStrokes
   jump : refusal (levels (take 1 rolledStrokes) [] [] []) (addStroke (stroke 0 (turn 5 25) (turn 9 14))) ≡ 14
-  zone-there : keptZones (dataOf (by .left)) ≡ zone 0 5 18 16 24 14 25 1 2 ∷ []
+  zone-there : keptZones (dataOf (by .left)) ≡ zone 0 5 18 16 24 14 25 1 2 9 5 ∷ []
   third : rowsAnswer 0 1 (zoneThird true 29 26 24 ∷ []) ≡ thirdCall (by .left .chart) (barsK 26)
   three-n : rowsAnswer 0 2 (mark true 0 29 26 ∷ mark true 1 38 19 ∷ []) ≡ nCall (by .left .chart) (barsK 26)
 
@@ -263,6 +264,26 @@ rolled-k = record { by = way rolling refl; strokes = refl; jump = refl; zone-the
 -- the promise speaks of it
 rolled-promised : Promise (callsIn rolling) (numbersIn rolling) (rolled-k .by .left)
 rolled-promised = promise _ _ _ _ (rolled-k .by .nothing) (rolled-k .by .chain)
+
+-- ---- two members with dd: lows of 14 at bars 9 and 18. The zone has the smaller bar, and that of gg from the second member
+
+abbrev tied : Levels
+tied = chartOf (triple 1 0 4 ∷ []) (turn 0 10 ∷ turn 5 20 ∷ turn 9 14 ∷ turn 14 24 ∷ turn 18 14 ∷ turn 25 30 ∷ [])
+
+abbrev tying : List Asked
+tying = accepted (map addStroke (tied .strokes) ++ map addSegment (tied .segments) ++ map addBig (tied .bigs) ++ map addSuperior (tied .superiors))
+
+record Tied : Type 0 where
+  by : Way tying
+  zone-there : keptZones (dataOf (by .left)) ≡ zone 0 5 18 14 20 14 24 1 2 9 14 ∷ []
+
+tied-bars : Tied
+unfolding everything liveOf way
+tied-bars = record { by = way tying refl; zone-there = refl }
+
+-- the promise speaks of it
+tied-promised : Promise (callsIn tying) (numbersIn tying) (tied-bars .by .left)
+tied-promised = promise _ _ _ _ (tied-bars .by .nothing) (tied-bars .by .chain)
 
 -- ---- every kind of call, refused ones among them with each number but 3 (a full level) and 21; marks of both sides, on zones and on an anchor, one of
 -- order 2. Numbers, records and rows are those of 01 and of the reference

@@ -1,5 +1,5 @@
 -- Demand 3 of the customer's letter as one statement, over the definitions that the contracts of the code cite. Sentences in quotes are the
--- letter's. Assumes nothing.
+-- letter's, but for the clause of request 6. Assumes nothing.
 use Prim.Native.Nat.{ℕ, _≤_}
 use mathlib.Core.Path.{_≡_}
 use mathlib.Core.Logic.{_≢_}
@@ -11,12 +11,13 @@ use Rattle.chart.specs.declared.ThirdMark.{ThirdMark}
 use Rattle.chart.specs.declared.NMark.{NMark}
 use Rattle.rules.specs.Answer.{rowsAnswer}
 use Rattle.rules.specs.Records.{Levels, levelsOf, Quotes}
+use Rattle.rules.specs.Ranges.{rangeOf}
 use Rattle.rules.specs.Zones.{overlapZones, membersOf}
 use Rattle.rules.specs.Marks.{quote, thirdMarks, nMarks}
 use Rattle.rules.specs.Refusals.{refuse, badSlices, badQuotes, endsOutside}
 use Rattle.rules.specs.Calls.{thirdCall, nCall}
 use Rattle.rules.specs.Machine.{Call}
-use Rattle.rules.specs.Claims.{Opposes, OneZone, Edges, Beyond, Traced, Stems, Earlier, Apart}
+use Rattle.rules.specs.Claims.{Opposes, OneZone, Edges, Extremes, Beyond, Traced, Stems, Earlier, Apart}
 use Rattle.live.specs.declared.Live.{Live}
 use Rattle.live.specs.Did.{Nothing}
 use Rattle.live.specs.Sequence.{Chain, AsMachine}
@@ -82,6 +83,9 @@ pub record Promise (ks : List Call) (ns : List ℕ) (d : Live) : Type 0 where
       → Opposes (levelsIn d .bigs) (levelsIn d .superiors) (z .«sup_idx») j
   -- "Every zone has dd ≤ zd ≤ zg ≤ gg, and one of two or more members has zd < zg"
   pub edges : (z : Zone) → List·Memᴰ z (zonesIn d) → Edges z
+  -- 02, request 6: "Every zone passes this on as the bar of dd and the bar of gg, the smallest bar number among its members on equal prices"
+  pub extremes :
+      (z : Zone) → List·Memᴰ z (zonesIn d) → Extremes (rangeOf (levelsIn d)) (levelsIn d .bigs) (membersOf (levelsIn d)) z
   -- for all lent highs and lows, and every result that stands for the third call's answer, as its contract says
   pub third :
       (q : Quotes) (number count : ℕ) (rows : List ThirdMark) → rowsAnswer number count rows ≡ thirdCall (d .chart) q

@@ -38,35 +38,35 @@ pub record Facts : Type 0 where
   pub a-missing-range-is-no-member :
       overlapZones (overBigs (stroke 0 (turn 0 0) (turn 0 0) ∷ stroke 0 (turn 0 0) (turn 0 0) ∷ []) (triple 0 0 0 ∷ triple 0 1 0 ∷ [])
       (triple 1 0 1 ∷ []))
-      ≡ zone 0 0 0 0 0 0 0 0 1 ∷ []
+      ≡ zone 0 0 0 0 0 0 0 0 1 0 0 ∷ []
   -- its last is the number of bigs
   pub a-superior-whose-last-is-no-big-is-skipped : overlapZones (chartOf (triple 0 0 1 ∷ []) (turn 0 0 ∷ turn 1 1 ∷ [])) ≡ []
   -- two bigs of one price
   pub a-touch-founds-nothing :
       overlapZones (levelled (stroke 0 (turn 0 0) (turn 0 0) ∷ stroke 0 (turn 0 0) (turn 0 0) ∷ []) (triple 1 0 1 ∷ []))
-      ≡ zone 0 0 0 0 0 0 0 0 1 ∷ zone 0 0 0 0 0 0 0 1 1 ∷ []
+      ≡ zone 0 0 0 0 0 0 0 0 1 0 0 ∷ zone 0 0 0 0 0 0 0 1 1 0 0 ∷ []
   -- the third has the price of the lower edge
   pub a-touch-extends :
       overlapZones (levelled (stroke 1 (turn 0 1) (turn 0 0) ∷ stroke 1 (turn 0 1) (turn 0 0) ∷ stroke 1 (turn 0 0) (turn 0 0) ∷ [])
       (triple 0 0 2 ∷ []))
-      ≡ zone 0 0 0 0 1 0 1 0 3 ∷ []
+      ≡ zone 0 0 0 0 1 0 1 0 3 0 0 ∷ []
   pub zd-stays :
       overlapZones (levelled (stroke 0 (turn 0 1) (turn 0 0) ∷ stroke 0 (turn 0 0) (turn 0 1) ∷ stroke 0 (turn 0 1) (turn 0 1) ∷ [])
       (triple 1 0 2 ∷ []))
-      ≡ zone 0 0 0 0 1 0 1 0 3 ∷ []
+      ≡ zone 0 0 0 0 1 0 1 0 3 0 0 ∷ []
   pub zg-stays :
       overlapZones (levelled (stroke 1 (turn 0 1) (turn 0 0) ∷ stroke 1 (turn 0 1) (turn 0 0) ∷ stroke 1 (turn 0 0) (turn 0 0) ∷ [])
       (triple 0 0 2 ∷ []))
-      ≡ zone 0 0 0 0 1 0 1 0 3 ∷ []
+      ≡ zone 0 0 0 0 1 0 1 0 3 0 0 ∷ []
   pub the-end-bar-moves :
       overlapZones (levelled (stroke 1 (turn 0 1) (turn 0 0) ∷ stroke 1 (turn 0 1) (turn 1 0) ∷ []) (triple 0 0 1 ∷ []))
-      ≡ zone 0 0 1 0 1 0 1 0 2 ∷ []
+      ≡ zone 0 0 1 0 1 0 1 0 2 0 0 ∷ []
   pub dd-widens :
       overlapZones (levelled (stroke 1 (turn 0 1) (turn 0 2) ∷ stroke 1 (turn 0 0) (turn 0 2) ∷ []) (triple 0 0 1 ∷ []))
-      ≡ zone 0 0 0 1 2 0 2 0 2 ∷ []
+      ≡ zone 0 0 0 1 2 0 2 0 2 0 0 ∷ []
   pub gg-widens :
       overlapZones (levelled (stroke 1 (turn 0 1) (turn 0 0) ∷ stroke 1 (turn 0 2) (turn 0 0) ∷ []) (triple 0 0 1 ∷ []))
-      ≡ zone 0 0 0 0 1 0 2 0 2 ∷ []
+      ≡ zone 0 0 0 0 1 0 2 0 2 0 0 ∷ []
   -- ---- the scan: where it starts and stops
 
   pub on-the-edge-is-no-hit :

@@ -7,8 +7,7 @@ use lib.ListN.{length, replicate, set}
 use lib.Ieee.{Float, nan, inf}
 use Rattle.chart.specs.declared.Stroke.{Stroke}
 use Rattle.chart.specs.declared.Triple.{Triple}
-use Rattle.chart.specs.declared.Range.{Range}
-use Rattle.chart.specs.declared.Range.the-variants.{Found, Missing}
+use Rattle.chart.specs.declared.Range.the-variants.{Missing}
 use Rattle.chart.specs.declared.EndPoint.{EndPoint}
 use Rattle.chart.specs.declared.EndPoint.the-variants.{At, Nowhere}
 use Rattle.chart.specs.declared.Chart.{Chart}
@@ -31,6 +30,7 @@ use Rattle.rules.proofs.Computing.{everything}
 use Rattle.rules.proofs.Charts.{
   price,
   minusZero,
+  found,
   turn,
   triple,
   strokesOf,
@@ -75,9 +75,7 @@ folded =
     (triple 0 0 0 ∷ triple 1 0 1 ∷ triple 0 1 0 ∷ triple 0 2 2 ∷ triple 1 3 3 ∷ triple 1 0 4 ∷ [])
     [])
 
--- a range, by its bars, low and high, and an end point
-abbrev found : ℕ → ℕ → ℕ → ℕ → Range
-found from to low high = Found (record { low = price low; high = price high; «start_bar» = from; «end_bar» = to })
+-- an end point
 
 abbrev ending : ℕ → ℕ → EndPoint
 ending bar p = At bar (price p)
@@ -132,14 +130,14 @@ selling = charted (chartOf [] (turn 0 1 ∷ turn 1 3 ∷ turn 2 2 ∷ turn 3 4 �
 
 pub record Facts : Type 0 where
   -- ranges: 21
-  pub range-k : rangeCall (charted K) (triple 0 1 3) ≡ given (found 5 18 16 20)
-  pub range-strokes : rangeCall folded (triple 0 0 0) ≡ given (found 0 3 0 5)
-  pub range-segments : rangeCall folded (triple 1 0 1) ≡ given (found 0 6 5 6)
+  pub range-k : rangeCall (charted K) (triple 0 1 3) ≡ given (found 5 18 16 20 18 5)
+  pub range-strokes : rangeCall folded (triple 0 0 0) ≡ given (found 0 3 0 5 3 0)
+  pub range-segments : rangeCall folded (triple 1 0 1) ≡ given (found 0 6 5 6 0 6)
   pub range-turned : rangeCall folded (triple 0 1 0) ≡ given Missing
   pub range-no-first-stroke : rangeCall folded (triple 0 2 2) ≡ given Missing
   pub range-no-last-stroke : rangeCall folded (triple 1 3 3) ≡ given Missing
   pub range-no-segment : rangeCall folded (triple 1 0 4) ≡ given Missing
-  pub range-broken : rangeCall unjoined (triple 0 6 7) ≡ given (found 29 1 9 26)
+  pub range-broken : rangeCall unjoined (triple 0 6 7) ≡ given (found 29 1 9 26 1 29)
   pub range-behind : rangeCall longer (triple 0 0 8) ≡ given Missing
   pub range-overfull : rangeCall overfull (triple 0 1 1) ≡ refused 21
   pub range-direction : rangeCall turnedSuperior (triple 0 1 1) ≡ refused 21
@@ -147,7 +145,7 @@ pub record Facts : Type 0 where
   pub range-21-first : rangeCall noNumber (triple 0 1 0) ≡ refused 21
   pub range-stands : rangeAnswer 0 Missing ≡ given Missing
   pub range-refused : rangeAnswer 21 Missing ≡ refused 21
-  pub range-beside : rangeAnswer 21 (found 0 3 0 5) ≡ refused 0
+  pub range-beside : rangeAnswer 21 (found 0 3 0 5 3 0) ≡ refused 0
   -- end points: 21
   pub end-k : endPointCall (charted K) 3 ≡ given (ending 18 16)
   pub end-strokes : endPointCall folded 0 ≡ given (ending 3 0)

@@ -45,7 +45,7 @@ abbrev threeMembers : Levels
 threeMembers = chartOf (triple 1 0 6 ∷ []) (turnsK (turn 25 27 ∷ turn 29 20 ∷ turn 33 35 ∷ []))
 
 abbrev pub zoneK : Zone
-zoneK = zone 0 5 18 16 20 14 24 1 2
+zoneK = zone 0 5 18 16 20 14 24 1 2 9 14
 
 -- ---- P1 to P8
 
@@ -60,8 +60,8 @@ pub record Facts : Type 0 where
   pub p4 : thirdMarks K (barsK 20) ≡ []
   pub p4-n : nMarks K (barsK 20) ≡ []
   pub p5 : (on : Bool) → bigClasses on sixK ≡ class 0 4 1 false true false ∷ []
-  pub p6 : overlapZones touching ≡ zone 0 5 9 14 20 14 20 1 1 ∷ zone 0 14 18 20 24 20 24 3 1 ∷ []
-  pub p7 : overlapZones threeMembers ≡ zone 0 5 29 16 20 14 27 1 3 ∷ []
+  pub p6 : overlapZones touching ≡ zone 0 5 9 14 20 14 20 1 1 9 5 ∷ zone 0 14 18 20 24 20 24 3 1 18 14 ∷ []
+  pub p7 : overlapZones threeMembers ≡ zone 0 5 29 16 20 14 27 1 3 9 25 ∷ []
   pub p8 : map colName (25 ∷ 26 ∷ 255 ∷ []) ≡ ascii "Z" ∷ ascii "AA" ∷ ascii "IV" ∷ []
 
 pub facts : Facts

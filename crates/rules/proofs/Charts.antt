@@ -8,6 +8,8 @@ use lib.Ieee.{Float, binary64, ofInt, ofBits}
 use Rattle.chart.specs.declared.Stroke.{Stroke}
 use Rattle.chart.specs.declared.Triple.{Triple}
 use Rattle.chart.specs.declared.Chart.{Chart}
+use Rattle.chart.specs.declared.Range.{Range}
+use Rattle.chart.specs.declared.Range.the-variants.{Found}
 use Rattle.chart.specs.declared.Zone.{Zone}
 use Rattle.chart.specs.declared.Class.{Class}
 use Rattle.chart.specs.declared.ThirdMark.{ThirdMark}
@@ -131,9 +133,22 @@ quoted n h hs l ls = record { highs = along n h hs; lows = along n l ls }
 
 -- ---- answers
 
--- a zone of superior h: bars, zd, zg, dd, gg, first member, members
-abbrev pub zone : ℕ → ℕ → ℕ → ℕ → ℕ → ℕ → ℕ → ℕ → ℕ → Zone
-zone h from to d g dd gg m n =
+-- a range: bars, low, high, bars of low and high
+abbrev pub found : ℕ → ℕ → ℕ → ℕ → ℕ → ℕ → Range
+found from to low high lowBar highBar =
+    Found
+    (record {
+      low = price low;
+      high = price high;
+      «start_bar» = from;
+      «end_bar» = to;
+      «low_bar» = lowBar;
+      «high_bar» = highBar;
+    })
+
+-- a zone of superior h: bars, zd, zg, dd, gg, first member, members, bars of dd and gg
+abbrev pub zone : ℕ → ℕ → ℕ → ℕ → ℕ → ℕ → ℕ → ℕ → ℕ → ℕ → ℕ → Zone
+zone h from to d g dd gg m n low high =
     record {
       «sup_idx» = h;
       «start_bar» = from;
@@ -144,6 +159,8 @@ zone h from to d g dd gg m n =
       gg = price gg;
       «first_member» = m;
       members = n;
+      «dd_bar» = low;
+      «gg_bar» = high;
     }
 
 abbrev pub zoneThird : Bool → ℕ → ℕ → ℕ → ThirdMark

@@ -25,7 +25,7 @@ unfoldable pub everything : ℕ
 unfolding records.levelsOf
     answer.isRefused answer.answered answer.rowsAnswer answer.countAnswer answer.rangeAnswer answer.endPointAnswer
     ranges.firstStroke ranges.lastStroke ranges.spanned ranges.rangeOf ranges.endPoint
-    zones.opposing zones.begin zones.joins zones.join zones.cut zones.runs zones.within zones.opposingOf zones.zonesOf zones.zonesFrom
+    zones.opposing zones.lowBar zones.highBar zones.begin zones.joins zones.join zones.cut zones.runs zones.within zones.opposingOf zones.zonesOf zones.zonesFrom
     zones.membersIn zones.overlapZones zones.membersOf
     machine.empty machine.zones machine.refusal machine.withStrokes machine.withSegments machine.withBigs machine.withSuperiors
     machine.lengthened machine.withdrawn machine.asTriple machine.stepped machine.step machine.run machine.answers

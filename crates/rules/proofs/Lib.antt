@@ -7,6 +7,7 @@ pub mod LiveFacts
 pub mod CallFacts
 pub mod FileFacts
 pub mod RollFacts
+pub mod ExtremeFacts
 pub mod BarsFacts
 pub mod Readings
 pub mod Borders

@@ -47,6 +47,8 @@ edges d g dd gg =
       gg = gg;
       «first_member» = 1;
       members = 2;
+      «dd_bar» = 9;
+      «gg_bar» = 14;
     }
 
 -- two strokes of which the second, the one opposing big, ends at price 0
@@ -66,6 +68,8 @@ atZero d dd =
       gg = price 9;
       «first_member» = 1;
       members = 1;
+      «dd_bar» = 2;
+      «gg_bar» = 1;
     }
 
 -- every level full; each superior holds one big of its own direction, so there is no zone
@@ -84,7 +88,7 @@ pub record Facts : Type 0 where
   pub whole : on (charted K) (zoneK ∷ []) 1 ≡ 0
   pub whole-after : after (view (keeping (charted K) (zoneK ∷ []) 1) 25) (withdraw 3) ≡ record { levels = bigsK 8 []; zones = []; count = 26 }
   pub lengthened-after :
-      after (view (keeping (charted (bigsK 8 (triple 1 0 2 ∷ []))) (zone 0 5 9 14 20 14 20 1 1 ∷ []) 1) 25) (lengthen 4)
+      after (view (keeping (charted (bigsK 8 (triple 1 0 2 ∷ []))) (zone 0 5 9 14 20 14 20 1 1 9 5 ∷ []) 1) 25) (lengthen 4)
       ≡ record { levels = K; zones = zoneK ∷ []; count = 26 }
   pub count-stops :
       after (view (keeping (charted K) (zoneK ∷ []) 1) 4294967295) (withdraw 3)
@@ -112,7 +116,7 @@ pub record Facts : Type 0 where
   pub stroke-direction : on (strokeK 7 (priced 2 33 38 (price 35) (price 19))) (zoneK ∷ []) 1 ≡ 21
   pub segment-direction : on (segmentK 7 (triple 2 7 7)) (zoneK ∷ []) 1 ≡ 21
   pub big-direction : on (bigK 7 (triple 2 7 7)) (zoneK ∷ []) 1 ≡ 21
-  pub superior-direction : on (superiorK (triple 1 0 4 ∷ triple 2 5 5 ∷ [])) (zoneK ∷ zone 1 25 29 26 30 26 30 5 1 ∷ []) 2 ≡ 21
+  pub superior-direction : on (superiorK (triple 1 0 4 ∷ triple 2 5 5 ∷ [])) (zoneK ∷ zone 1 25 29 26 30 26 30 5 1 29 25 ∷ []) 2 ≡ 21
   -- a price that isn't one
   pub start-nan : on (strokeK 0 (priced 1 0 5 nan (price 20))) (zoneK ∷ []) 1 ≡ 21
   pub end-nan : on (strokeK 7 (priced 0 33 38 (price 35) nan)) (zoneK ∷ []) 1 ≡ 21
@@ -141,15 +145,15 @@ pub record Facts : Type 0 where
   -- kept zones other than the rule's: lost, one too many, or another field
   pub zones-lost : on (charted K) (zoneK ∷ []) 0 ≡ 21
   pub zones-twice : on (charted K) (zoneK ∷ zoneK ∷ []) 2 ≡ 21
-  pub zone-superior : on (charted K) (zone 1 5 18 16 20 14 24 1 2 ∷ []) 1 ≡ 21
-  pub zone-start : on (charted K) (zone 0 4 18 16 20 14 24 1 2 ∷ []) 1 ≡ 21
-  pub zone-end : on (charted K) (zone 0 5 17 16 20 14 24 1 2 ∷ []) 1 ≡ 21
-  pub zone-zd : on (charted K) (zone 0 5 18 15 20 14 24 1 2 ∷ []) 1 ≡ 21
-  pub zone-zg : on (charted K) (zone 0 5 18 16 19 14 24 1 2 ∷ []) 1 ≡ 21
-  pub zone-dd : on (charted K) (zone 0 5 18 16 20 13 24 1 2 ∷ []) 1 ≡ 21
-  pub zone-gg : on (charted K) (zone 0 5 18 16 20 14 25 1 2 ∷ []) 1 ≡ 21
-  pub zone-first : on (charted K) (zone 0 5 18 16 20 14 24 3 2 ∷ []) 1 ≡ 21
-  pub zone-members : on (charted K) (zone 0 5 18 16 20 14 24 1 3 ∷ []) 1 ≡ 21
+  pub zone-superior : on (charted K) (zone 1 5 18 16 20 14 24 1 2 9 14 ∷ []) 1 ≡ 21
+  pub zone-start : on (charted K) (zone 0 4 18 16 20 14 24 1 2 9 14 ∷ []) 1 ≡ 21
+  pub zone-end : on (charted K) (zone 0 5 17 16 20 14 24 1 2 9 14 ∷ []) 1 ≡ 21
+  pub zone-zd : on (charted K) (zone 0 5 18 15 20 14 24 1 2 9 14 ∷ []) 1 ≡ 21
+  pub zone-zg : on (charted K) (zone 0 5 18 16 19 14 24 1 2 9 14 ∷ []) 1 ≡ 21
+  pub zone-dd : on (charted K) (zone 0 5 18 16 20 13 24 1 2 9 14 ∷ []) 1 ≡ 21
+  pub zone-gg : on (charted K) (zone 0 5 18 16 20 14 25 1 2 9 14 ∷ []) 1 ≡ 21
+  pub zone-first : on (charted K) (zone 0 5 18 16 20 14 24 3 2 9 14 ∷ []) 1 ≡ 21
+  pub zone-members : on (charted K) (zone 0 5 18 16 20 14 24 1 3 9 14 ∷ []) 1 ≡ 21
   pub zone-nan : on (charted K) (edges (price 16) (price 20) (price 14) nan ∷ []) 1 ≡ 21
   pub zone-infinite : on (charted K) (edges (price 16) (inf false) (price 14) (price 24) ∷ []) 1 ≡ 21
   -- -0 is not 0: as data they differ

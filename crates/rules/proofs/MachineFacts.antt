@@ -110,7 +110,7 @@ pub record Runs : Type 0 where
   pub built-accepted : answers empty building ≡ replicate 25 0
   pub built-zones : zones (run empty building) ≡ zoneK ∷ []
   -- lengthen sets the last superior's last, and the zones follow
-  pub shorter-zones : zones (machine (bigsK 8 (triple 1 0 2 ∷ [])) 25) ≡ zone 0 5 9 14 20 14 20 1 1 ∷ []
+  pub shorter-zones : zones (machine (bigsK 8 (triple 1 0 2 ∷ [])) 25) ≡ zone 0 5 9 14 20 14 20 1 1 9 5 ∷ []
   pub lengthened : run (machine (bigsK 8 (triple 1 0 2 ∷ [])) 25) (lengthen 4 ∷ []) ≡ machine K 26
   pub lengthened-zones : zones (run (machine (bigsK 8 (triple 1 0 2 ∷ [])) 25) (lengthen 4 ∷ [])) ≡ zoneK ∷ []
   pub lengthened-last :
@@ -142,7 +142,7 @@ pub record Runs : Type 0 where
   pub derived-superiors-case3 :
       run (machine fiveBigs 15) (deriveSuperiors 1 ∷ [])
       ≡ machine (levels five (one-each 0 five) (one-each 0 five) (triple 0 0 2 ∷ triple 1 3 3 ∷ [])) 16
-  pub derived-zones : zones (run (machine fiveBigs 15) (deriveSuperiors 1 ∷ [])) ≡ zone 0 1 2 1 2 1 2 1 1 ∷ []
+  pub derived-zones : zones (run (machine fiveBigs 15) (deriveSuperiors 1 ∷ [])) ≡ zone 0 1 2 1 2 1 2 1 1 1 2 ∷ []
   pub derived-k :
       run (machine (levels (K .strokes) (K .segments) [] []) 16) (deriveBigs 1 ∷ [])
       ≡ machine (levels (K .strokes) (K .segments) (triple 1 0 6 ∷ []) []) 17

@@ -36,36 +36,36 @@ pub record Facts : Type 0 where
   -- the start of its first stroke, the end of its last
   pub a-range-over-several-strokes :
       overlapZones (levels (strokesOf 0 (turn 0 5 ∷ turn 1 2 ∷ turn 2 4 ∷ turn 3 0 ∷ [])) (triple 0 0 2 ∷ []) (triple 0 0 0 ∷ []) (triple 1 0 0 ∷ []))
-      ≡ zone 0 0 3 0 5 0 5 0 1 ∷ []
+      ≡ zone 0 0 3 0 5 0 5 0 1 3 0 ∷ []
   -- ---- zones
 
   -- its one big has three strokes
   pub members-are-bigs :
       membersOf (levels (strokesOf 0 (turn 0 5 ∷ turn 1 2 ∷ turn 2 4 ∷ turn 3 0 ∷ [])) (triple 0 0 2 ∷ []) (triple 0 0 0 ∷ []) (triple 1 0 0 ∷ []))
-      (zone 0 0 3 0 5 0 5 0 1)
+      (zone 0 0 3 0 5 0 5 0 1 3 0)
       ≡ 0 ∷ []
   -- as many as the zone has, from its first
-  pub members-as-many : membersOf touching (zone 0 5 9 14 20 14 20 1 1) ≡ 1 ∷ []
-  pub members-from-the-first : membersOf touching (zone 0 14 18 20 24 20 24 3 1) ≡ 3 ∷ []
+  pub members-as-many : membersOf touching (zone 0 5 9 14 20 14 20 1 1 9 5) ≡ 1 ∷ []
+  pub members-from-the-first : membersOf touching (zone 0 14 18 20 24 20 24 3 1 18 14) ≡ 3 ∷ []
   -- opposing [14, 24] and [16, 20]
   pub zg-narrowed-by-the-second-member :
       overlapZones (levelled (stroke 1 (turn 0 14) (turn 1 24) ∷ stroke 1 (turn 2 16) (turn 3 20) ∷ []) (triple 0 0 1 ∷ []))
-      ≡ zone 0 0 3 16 20 14 24 0 2 ∷ []
+      ≡ zone 0 0 3 16 20 14 24 0 2 0 1 ∷ []
   -- the third is above zg, though not above gg: it begins the next run
   pub a-longer-run-by-both-tests :
       overlapZones (overBigs (stroke 0 (turn 0 4) (turn 0 0) ∷ stroke 1 (turn 0 0) (turn 0 4) ∷ stroke 0 (turn 0 0) (turn 0 1) ∷ []) (triple 0 0 0 ∷
       triple 0 1 2 ∷ triple 0 0 1 ∷ []) (triple 1 0 2 ∷ []))
-      ≡ zone 0 0 0 0 1 0 4 0 2 ∷ zone 0 0 0 4 4 4 4 2 1 ∷ []
+      ≡ zone 0 0 0 0 1 0 4 0 2 0 0 ∷ zone 0 0 0 4 4 4 4 2 1 0 0 ∷ []
   -- the third is below gg
   pub gg-widens-from-gg :
       overlapZones (levels (stroke 1 (turn 0 0) (turn 0 4) ∷ stroke 1 (turn 0 1) (turn 0 2) ∷ stroke 1 (turn 0 1) (turn 0 0) ∷ []) (triple 0 0 0 ∷
       triple 0 1 1 ∷ triple 0 2 2 ∷ []) (triple 0 0 0 ∷ triple 0 1 1 ∷ triple 0 2 2 ∷ triple 0 4 4 ∷ []) (triple 1 0 3 ∷ []))
-      ≡ zone 0 0 0 1 2 0 4 0 3 ∷ []
+      ≡ zone 0 0 0 1 2 0 4 0 3 0 0 ∷ []
   -- the third is below zd, though not below dd
   pub a-longer-run-by-zd :
       overlapZones (levels (stroke 0 (turn 0 4) (turn 0 0) ∷ stroke 1 (turn 0 0) (turn 0 0) ∷ stroke 1 (turn 0 0) (turn 0 1) ∷ []) (triple 1 0 2 ∷
       triple 0 0 0 ∷ triple 0 1 1 ∷ []) (triple 0 0 0 ∷ triple 0 1 1 ∷ triple 0 2 2 ∷ []) (triple 1 0 2 ∷ []))
-      ≡ zone 0 0 0 1 4 0 4 0 2 ∷ zone 0 0 0 0 0 0 0 2 1 ∷ []
+      ≡ zone 0 0 0 1 4 0 4 0 2 0 0 ∷ zone 0 0 0 0 0 0 0 2 1 0 0 ∷ []
   -- ---- third marks: the scan
 
   -- its first is its last

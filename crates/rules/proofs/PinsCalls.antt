@@ -39,7 +39,7 @@ abbrev twoSuperiors : Levels
 twoSuperiors = bigsK 8 (triple 1 0 4 ∷ triple 1 5 5 ∷ [])
 
 abbrev second : ℕ → Zone
-second h = zone h 25 29 26 30 26 30 5 1
+second h = zone h 25 29 26 30 26 30 5 1 29 25
 
 -- two rows
 abbrev rows : List ℕ
@@ -86,8 +86,8 @@ pub record Facts : Type 0 where
       refusal (levels (small .strokes) (one-each 0 (small .strokes)) (triple 1 0 0 ∷ []) (triple 1 0 0 ∷ [])) (withdraw 1)
       ≡ 0
   -- kept zones: a number below the rule's is another one too
-  pub kept-first-before : on K (zone 0 5 18 16 20 14 24 0 2 ∷ []) 1 ≡ 21
-  pub kept-members-fewer : on K (zone 0 5 18 16 20 14 24 1 1 ∷ []) 1 ≡ 21
+  pub kept-first-before : on K (zone 0 5 18 16 20 14 24 0 2 9 14 ∷ []) 1 ≡ 21
+  pub kept-members-fewer : on K (zone 0 5 18 16 20 14 24 1 1 9 14 ∷ []) 1 ≡ 21
   pub kept-of-its-superior : on twoSuperiors (zoneK ∷ second 1 ∷ []) 2 ≡ 0
   pub kept-superior-before : on twoSuperiors (zoneK ∷ second 0 ∷ []) 2 ≡ 21
   -- 256 kept zones are not refused for their number, whatever the chart

@@ -1,4 +1,4 @@
--- What demand 3 claims of a chart and of its marks, and request 7 of 02 of files. Assumes nothing.
+-- What demand 3 claims of a chart and of its marks, and of 02 request 6 of zones and request 7 of files. Assumes nothing.
 use Prim.Native.Nat.{ℕ, _≤_, _<_}
 use mathlib.Core.Path.{_≡_}
 use mathlib.Core.Logic.{_≢_}
@@ -9,6 +9,9 @@ use lib.ListN.{getElem?}
 use lib.Ieee.{Float, le, lt}
 use Rattle.chart.specs.declared.Stroke.{Stroke}
 use Rattle.chart.specs.declared.Triple.{Triple}
+use Rattle.chart.specs.declared.Span.{Span}
+use Rattle.chart.specs.declared.Range.{Range}
+use Rattle.chart.specs.declared.Range.the-variants.{Found}
 use Rattle.chart.specs.declared.Zone.{Zone}
 use Rattle.chart.specs.declared.Ground.{Ground}
 use Rattle.chart.specs.declared.Ground.the-variants as ground
@@ -67,6 +70,32 @@ pub record Edges (z : Zone) : Type 0 where
   pub zd-zg : le (z .zd) (z .zg) ≡ true
   pub zg-gg : le (z .zg) (z .gg) ≡ true
   pub overlap : 2 ≤ z .members → lt (z .zd) (z .zg) ≡ true
+
+-- ---- bars of dd and gg
+
+-- record j of a level has the range s
+pub record RangeAt (range : Triple → Range) (level : List Triple) (j : ℕ) (s : Span) : Type 0 where
+  pub item : Triple
+  pub item-at : getElem? level j ≡ some item
+  pub found : range item ≡ Found s
+
+-- Of some members, a price p of theirs, which is a low or a high, and a bar b. 02, request 6: the bar is that of a member with this price, and it is
+-- "the smallest bar number among its members on equal prices"
+pub record Extreme
+    (range : Triple → Range) (level : List Triple) (members : List ℕ) (price : Span → Float) (bar : Span → ℕ) (p : Float) (b : ℕ) : Type 0
+  where
+    pub member : ℕ
+    pub span : Span
+    pub is-member : List·Memᴰ member members
+    pub its-range : RangeAt range level member span
+    pub its-price : price span ≡ p
+    pub its-bar : bar span ≡ b
+    pub smallest : (j : ℕ) (s : Span) → List·Memᴰ j members → RangeAt range level j s → price s ≡ p → b ≤ bar s
+
+-- "Every zone passes this on as the bar of dd and the bar of gg": lows and their bars give dd's, highs and their bars gg's
+pub record Extremes (range : Triple → Range) (level : List Triple) (members : Zone → List ℕ) (z : Zone) : Type 0 where
+  pub low : Extreme range level (members z) (λ (s : Span). s .low) (λ (s : Span). s .«low_bar») (z .dd) (z .«dd_bar»)
+  pub high : Extreme range level (members z) (λ (s : Span). s .high) (λ (s : Span). s .«high_bar») (z .gg) (z .«gg_bar»)
 
 -- ---- marks
 

@@ -1,13 +1,13 @@
 -- Zones of superiors over bigs, by 01's overlap rule. The rule asks of a superior only its direction, first and last, and of a big only its
 -- direction and range; so it is stated for owners over the records of any level, with the range as a parameter. Read "superior" for owner,
 -- "bigs" for level and "big" for record: at the end, `overlapZones` is the rule for these. Assumes nothing.
-use Prim.Native.Nat.{ℕ, suc, _-_}
+use Prim.Native.Nat.{ℕ, suc, _-_, min}
 use mathlib.Core.Bool.{Bool, true, false, cond, _&&_}
 use mathlib.Core.List.{List, [], _∷_, _++_, map}
 use mathlib.Core.Option.{none, some}
 use lib.ListN.{length, take, drop, getElem?}
 use lib.Dec.{eqb, leb, ltb}
-use lib.Ieee.{lt, le}
+use lib.Ieee.{Float, lt, le}
 use Rattle.chart.specs.declared.Triple.{Triple}
 use Rattle.chart.specs.declared.Span.{Span}
 use Rattle.chart.specs.declared.Range.{Range}
@@ -35,7 +35,15 @@ opposing range d j (b ∷ bs) =
 
 -- ---- runs
 
--- a run of one, of superior h, is a zone with zd = dd = low, zg = gg = high
+-- 02, request 6: "the bar of dd and the bar of gg, the smallest bar number among its members on equal prices". Of two prices p and q with bars a and b:
+-- the bar of the lower one, and the smaller bar where they are equal; and the same of the higher one
+unfoldable pub lowBar : Float → ℕ → Float → ℕ → ℕ
+lowBar p a q b = cond (lt p q) a (cond (lt q p) b (min a b))
+
+unfoldable pub highBar : Float → ℕ → Float → ℕ → ℕ
+highBar p a q b = cond (lt q p) a (cond (lt p q) b (min a b))
+
+-- a run of one, of superior h, is a zone with zd = dd = low, zg = gg = high; "every zone passes this on": the bars of dd and gg are those of low and high
 unfoldable pub begin : ℕ → Member → Zone
 begin h m =
     record {
@@ -48,6 +56,8 @@ begin h m =
       gg = m .span .high;
       «first_member» = m .index;
       members = 1;
+      «dd_bar» = m .span .«low_bar»;
+      «gg_bar» = m .span .«high_bar»;
     }
 
 -- The next opposing big joins a run of one when max of lows < min of highs; it joins a longer run when low ≤ zg and high ≥ zd
@@ -57,7 +67,8 @@ joins z s =
     (lt (higher (z .zd) (s .low)) (lower (z .zg) (s .high)))
     (le (s .low) (z .zg) && le (z .zd) (s .high))
 
--- Where it joins a run of one, max of lows and min of highs become zd and zg, for good. Joining moves the end bar and widens dd, gg
+-- Where it joins a run of one, max of lows and min of highs become zd and zg, for good. Joining moves the end bar and widens dd, gg, whose bars
+-- follow
 unfoldable pub join : Zone → Span → Zone
 join z s =
     record {
@@ -70,6 +81,8 @@ join z s =
       gg = higher (z .gg) (s .high);
       «first_member» = z .«first_member»;
       members = suc (z .members);
+      «dd_bar» = lowBar (z .dd) (z .«dd_bar») (s .low) (s .«low_bar»);
+      «gg_bar» = highBar (z .gg) (z .«gg_bar») (s .high) (s .«high_bar»);
     }
 
 -- the zones of a run z that is under way and of the opposing bigs that follow: one that does not join begins the next run

@@ -25,20 +25,20 @@ use Rattle.tables.proofs.Rows.{puts, rows-map, row-is}
 
 -- ---- what is put
 
-module _ (k way there : ℕ) (range : Range) (e : Stroke) (bars : List (List ℕ)) (prices : List (List Float)) (h : k < 256) (w : Wide bars prices) where
+module _ (k way there : ℕ) (range : Range) (e : Stroke) (bars : List (List ℕ)) (prices : List (List Float)) (h : k < 256) (wide : Wide bars prices) where
   pub puts-missing :
-      (x y : ℕ) (low high : Float) → range ≡ Missing
+      (x y v w : ℕ) (low high : Float) → range ≡ Missing
       → PutsBig k way range (pointIf there e) bars prices
-      (set bars k (way ∷ 0 ∷ x ∷ y ∷ there ∷ e .«end_bar» ∷ [])) (set prices k (low ∷ high ∷ e .«end_price» ∷ []))
+      (set bars k (way ∷ 0 ∷ x ∷ y ∷ there ∷ e .«end_bar» ∷ v ∷ w ∷ [])) (set prices k (low ∷ high ∷ e .«end_price» ∷ []))
   unfolding bigIn rangeIn pointIn pointIf
-  puts-missing x y low high m = puts bigIn k _ bars prices _ _ h w (rw m)
+  puts-missing x y v w low high m = puts bigIn k _ bars prices _ _ h wide (rw m)
 
   pub puts-found :
       (s : Span) → range ≡ Found s
       → PutsBig k way range (pointIf there e) bars prices
-      (set bars k (way ∷ 1 ∷ s .«start_bar» ∷ s .«end_bar» ∷ there ∷ e .«end_bar» ∷ [])) (set prices k (s .low ∷ s .high ∷ e .«end_price» ∷ []))
+      (set bars k (way ∷ 1 ∷ s .«start_bar» ∷ s .«end_bar» ∷ there ∷ e .«end_bar» ∷ s .«low_bar» ∷ s .«high_bar» ∷ [])) (set prices k (s .low ∷ s .high ∷ e .«end_price» ∷ []))
   unfolding bigIn rangeIn pointIn pointIf
-  puts-found s f = puts bigIn k _ bars prices _ _ h w (rw f)
+  puts-found s f = puts bigIn k _ bars prices _ _ h wide (rw f)
 
 -- ---- the bigs of a level
 

@@ -21,6 +21,8 @@ no-zone =
       gg = nan;
       «first_member» = 0;
       members = 0;
+      «dd_bar» = 0;
+      «gg_bar» = 0;
     }
 
 -- what the tables say of zone i

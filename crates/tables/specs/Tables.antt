@@ -33,12 +33,20 @@ pub record Big : Type 0 where
 unfoldable pub bigOf : Levels → Triple → Big
 bigOf c b = record { way = b .direction; range = rangeOf c b; point = pointOf (lastStroke c b) }
 
--- a row: the direction; whether the range is there, its start and end bar; whether the end point is there, its bar. Prices: the range's
--- low and high, the end point's
+-- a row: the direction; whether the range is there, its start and end bar; whether the end point is there, its bar; the range's bars of low and
+-- high. Prices: the range's low and high, the end point's
 unfoldable pub rangeIn : List ℕ → List Float → Range
 rangeIn row prices =
     cond (eqb (getD row 1 0) 0) Missing
-    (Found (record { low = getD prices 0 nan; high = getD prices 1 nan; «start_bar» = getD row 2 0; «end_bar» = getD row 3 0 }))
+    (Found
+    (record {
+      low = getD prices 0 nan;
+      high = getD prices 1 nan;
+      «start_bar» = getD row 2 0;
+      «end_bar» = getD row 3 0;
+      «low_bar» = getD row 6 0;
+      «high_bar» = getD row 7 0;
+    }))
 
 unfoldable pub pointIn : List ℕ → List Float → EndPoint
 pointIn row prices = cond (eqb (getD row 4 0) 0) Nowhere (At (getD row 5 0) (getD prices 2 nan))
@@ -122,7 +130,7 @@ FillsSups n superiors m bars sups =
 
 -- ---- zones
 
--- a row: superior, start and end bar, first member, members. Prices: zd, zg, dd, gg
+-- a row: superior, start and end bar, first member, members, bars of dd and gg. Prices: zd, zg, dd, gg
 unfoldable pub zoneIn : List ℕ → List Float → Zone
 zoneIn row prices =
     record {
@@ -135,6 +143,8 @@ zoneIn row prices =
       gg = getD prices 3 nan;
       «first_member» = getD row 3 0;
       members = getD row 4 0;
+      «dd_bar» = getD row 5 0;
+      «gg_bar» = getD row 6 0;
     }
 
 -- the zones that the first n rows are

@@ -12,7 +12,7 @@ ghost use Prim.Native.Nat.{_≤_, _<_, _+_};
 ghost use lib.ListN.{length};
 ghost use Rattle.rules.specs.Answer.{refused, given, rowsAnswer};
 ghost use Rattle.rules.specs.Records.{levelsOf};
-ghost use Rattle.rules.specs.Zones.{begin, joins, join};
+ghost use Rattle.rules.specs.Zones.{lowBar, begin, joins, join};
 ghost use Rattle.rules.specs.Calls.{zonesCall};
 ghost use Rattle.tables.specs.Rows.{Wide};
 ghost use Rattle.tables.specs.Tables.{ownerIn, zonesIn, Tables};
@@ -33,6 +33,8 @@ fn begin(h: u16, index: u16, span: Span) -> Zone
         gg: span.high,
         first_member: index,
         members: 1,
+        dd_bar: span.low_bar,
+        gg_bar: span.high_bar,
     }
 }
 
@@ -53,6 +55,19 @@ fn fixed(second: bool, narrowed: f64, edge: f64) -> f64
     if second { narrowed } else { edge }
 }
 
+// Of two prices with their bars, the bar of the lower one, and of equal prices the smaller bar. With the prices exchanged, that of the higher.
+fn low_bar(p: f64, a: u16, q: f64, b: u16) -> u16
+    ensures { λ r. ⌜ r ≡ lowBar p a q b ⌝ }
+{
+    if p < q {
+        return a;
+    }
+    if q < p {
+        return b;
+    }
+    if a < b { a } else { b }
+}
+
 // The run with one member more.
 fn join(z: Zone, s: Span) -> Zone
     requires { ⌜ z .members < 65535 ⌝ }
@@ -69,6 +84,8 @@ fn join(z: Zone, s: Span) -> Zone
         gg: price::higher(z.gg, s.high),
         first_member: z.first_member,
         members: z.members + 1,
+        dd_bar: low_bar(z.dd, z.dd_bar, s.low, s.low_bar),
+        gg_bar: low_bar(s.high, z.gg_bar, z.gg, s.high_bar),
     }
 }
 
@@ -106,10 +123,10 @@ fn take_member(run: Zone, begun: bool, h: u16, index: u16, span: Span) -> Taken
 fn owner_zones(
     h: u16,
     row: [u16; 5],
-    bars: &[[u16; 6]; 256],
+    bars: &[[u16; 8]; 256],
     prices: &[[f64; 3]; 256],
     k: usize,
-    zb: &mut [[u16; 5]; 256],
+    zb: &mut [[u16; 7]; 256],
     zp: &mut [[f64; 4]; 256],
 ) -> usize
     requires { ⌜ (k ≤ 256) × (ownerIn row .last < 256) × Wide (now zb) (now zp) ⌝ }
@@ -158,10 +175,10 @@ fn owner_zones(
 pub fn overlap(
     sups: &[[u16; 5]; 256],
     n: usize,
-    bars: &[[u16; 6]; 256],
+    bars: &[[u16; 8]; 256],
     prices: &[[f64; 3]; 256],
     m: usize,
-    zb: &mut [[u16; 5]; 256],
+    zb: &mut [[u16; 7]; 256],
     zp: &mut [[f64; 4]; 256],
 ) -> usize
     requires { ⌜ (n ≤ 256) × (m ≤ 256) × Wide (now zb) (now zp) ⌝ }
@@ -211,10 +228,10 @@ fn no_tables(number: u8) -> Begun
 pub fn tables_of(
     chart: Chart,
     own: u8,
-    bars: &mut [[u16; 6]; 256],
+    bars: &mut [[u16; 8]; 256],
     prices: &mut [[f64; 3]; 256],
     sups: &mut [[u16; 5]; 256],
-    zb: &mut [[u16; 5]; 256],
+    zb: &mut [[u16; 7]; 256],
     zp: &mut [[f64; 4]; 256],
 ) -> Begun
     requires { ⌜ Wide (now bars) (now prices) × Wide (now zb) (now zp) × (length (now sups) ≡ 256) ⌝ }
@@ -270,7 +287,7 @@ fn refusal(number: u8) -> ZoneRows
 }
 
 // The first n rows of the tables as the answer of a call.
-fn rows_of(n: usize, zb: &[[u16; 5]; 256], zp: &[[f64; 4]; 256]) -> ZoneRows
+fn rows_of(n: usize, zb: &[[u16; 7]; 256], zp: &[[f64; 4]; 256]) -> ZoneRows
     requires { ⌜ (n ≤ 256) × Wide (now zb) (now zp) ⌝ }
     ensures { λ r. ⌜ rowsAnswer (r .number) (r .count) (r .rows) ≡ given (zonesIn n (now (zb .entry)) (now (zp .entry))) ⌝ }
 {
@@ -291,10 +308,10 @@ fn rows_of(n: usize, zb: &[[u16; 5]; 256], zp: &[[f64; 4]; 256]) -> ZoneRows
 pub fn detect_bigseg_zhongshus_by_overlap(chart: Chart) -> ZoneRows
     ensures { λ r. ⌜ rowsAnswer (r .number) (r .count) (r .rows) ≡ zonesCall chart ⌝ }
 {
-    let mut bars = [[0u16; 6]; 256];
+    let mut bars = [[0u16; 8]; 256];
     let mut prices = [[0.0; 3]; 256];
     let mut sups = [[0u16; 5]; 256];
-    let mut zb = [[0u16; 5]; 256];
+    let mut zb = [[0u16; 7]; 256];
     let mut zp = [[0.0; 4]; 256];
     let begun = tables_of(
         chart,

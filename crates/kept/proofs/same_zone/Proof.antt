@@ -20,7 +20,7 @@ same-price-requires-4 c κs = prices (c .before .before .before) .gg-price
 
 returns : tie.Need-returns
 returns c =
-    let at4 = c .before .before .before .before in
+    let at4 = c .before .before .before .before .before .before .before .before in
     let at3 = at4 .before in
     let at2 = at3 .before in
     same-fields _ _ _ _ _ _ (at2 .before .same-price .ensures) (at2 .same-price2 .ensures) (at3 .same-price3 .ensures) (at4 .same-price4 .ensures)

@@ -6,7 +6,11 @@ use Rattle.levels.proofs.span_of.Tie as tie
 
 returns : tie.Need-returns
 unfolding spanned
-returns c = simp (c .before .lower .ensures, c .higher .ensures)
+returns c =
+    let low = c .before .before .before in
+    let high = low .before .before .before in
+    simp (high .before .lower .ensures, high .higher .ensures, low .bar-of .ensures, c .bar-of2 .ensures)
 
 pub span-of-spec : {M : Type 1} → statement M
-span-of-spec = tie.close (tie.spec (λ c κs. search needs) (λ c κs. search needs) returns)
+span-of-spec =
+    tie.close (tie.spec (λ c κs. search needs) (λ c κs. search needs) (λ c κs. search needs) (λ c κs. search needs) returns)
