@@ -286,6 +286,69 @@ NUMBERED = [
     steps([0, 0, 0, 0, 1, 2, 0], [(1, 1, 1)], [2] * 7),                                 # superiors before anchors
 ]
 
+def run_of(*spans, own=(), superiors=None):
+    """one superior up over bigs that are down, but those in `own`, each of one stroke (start bar, end bar, start price, end price); a span that is a list is
+    a big of these strokes, in one segment, and a None a big with first > last and one stroke, from 6 to 2 at bar 0"""
+    strokes, segments, bigs = [], [], []
+    for k, span in enumerate(spans):
+        some = span if isinstance(span, list) else [span or (0, 0, 6, 2)]
+        strokes += [(int(p < q), a, e, float(p), float(q)) for a, e, p, q in some]
+        segments.append((0, len(strokes) - len(some), len(strokes) - 1))
+        bigs.append((int(k in own), k + (span is None), k))
+    return Chart(strokes, segments, bigs, superiors or [(1, 0, len(bigs) - 1)])
+
+# Bars of dd and gg (02, request 6): each tells a reading from a wrong one, of dd as it stands and of gg upside down
+EXTREMES = [
+    run_of((5, 9, 6, 2), (14, 18, 8, 3)),                                   # no tie: dd is the first member's
+    run_of((5, 9, 6, 3), (14, 18, 8, 2)),                                   # or the last one's
+    run_of((5, 9, 6, 2), (14, 18, 8, 2)),                                   # a tie: the first member has the smaller bar
+    run_of((14, 18, 6, 2), (5, 9, 8, 2)),                                   # bars fall: the last has it
+    run_of((14, 18, 6, 2), (5, 9, 8, 2), (20, 24, 7, 2)),                   # the one between has it
+    run_of((14, 18, 6, 2), (20, 24, 8, 2), (5, 9, 7, 2)),                   # the last of three has it
+    run_of((14, 18, 6, 2), (5, 9, 8, 3), (20, 24, 7, 2)),                   # a smaller bar of a member with another price does not count
+    run_of((5, 9, 6, 3), (14, 18, 8, 2), (10, 12, 7, 2)),                   # nor that of a price that was least before
+    run_of((14, 18, 6, 3), (5, 9, 8, 3), (20, 24, 7, 2)),                   # a lower price, behind a tie, takes the bar, though it is larger
+    run_of((14, 18, 6, 2), (5, 9, 8, 2), (1, 3, 7, 3)),                     # a higher one leaves it
+    run_of((9, 5, 6, 2), (18, 14, 8, 2)),                                   # each stroke's bars fall
+    run_of((5, 9, 6, 2), (14, 9, 8, 2)),                                    # a tie at one bar
+    run_of((9, 5, 2, 6), (14, 18, 2, 8)),                                   # the lows are start prices
+    run_of((9, 5, 2, 6), (14, 7, 8, 2)),                                    # one is a start price, one an end price
+    run_of((5, 9, 4, 4)),                                                   # a level range alone: its start bar, twice
+    run_of((9, 5, 4, 4)),                                                   # also where its end bar is smaller
+    run_of((9, 5, 4, 4), (8, 3, 4, 4)),                                     # two, which found nothing: each its own
+    run_of((18, 14, 6, 2), (20, 24, 8, 2), (16, 3, 2, 2)),                  # a level member offers its start bar, not its end bar
+    run_of((18, 14, 6, 2), (20, 24, 8, 2), (12, 30, 2, 2)),                 # and that decides
+    run_of((18, 14, 6, 2), (20, 24, 8, 2), (9, 30, 2, 2), (7, 1, 2, 2)),    # two level members
+    run_of((14, 18, 6, 2), (5, 9, 8, 1), (3, 4, 8, 2)),                     # dd has no tie, gg has one
+    run_of((14, 18, 8, 2), (5, 9, 8, 2), (3, 4, 8, 2)),                     # both have one
+    run_of([(3, 4, 6, 2), (4, 5, 2, 4), (5, 9, 4, 2)]),                     # a stroke inside had the price at a smaller bar: the range's bar stays
+    run_of((14, 18, 6, 2), [(3, 4, 6, 2), (4, 5, 2, 4), (5, 20, 4, 2)]),    # so it decides no tie
+    run_of((14, 18, 6, 2), [(3, 4, 6, 1), (4, 5, 1, 4), (5, 20, 4, 2)]),    # nor does a lower price of a stroke inside
+    run_of((14, 18, 6, 2), None, (15, 19, 8, 2)),                           # a missing range between the members offers nothing
+    run_of(None, (14, 18, 6, 2), (15, 17, 8, 2), None),                     # nor one before and behind them
+    run_of((14, 18, 6, 2), (3, 4, 6, 2), (15, 17, 8, 2), own=[1]),          # nor a big of the superior's direction
+    run_of((14, 18, 6, 2), (5, 9, 8, 2), (3, 4, 8, 2), superiors=[(1, 0, 1)]),  # nor one behind its last
+    run_of((14, 18, 6, 2), (5, 9, 8, 2), (3, 4, 8, 2), superiors=[(1, 0, 2), (1, 1, 2), (1, 0, 1), (1, 0, 0)]),
+    run_of((14, 18, 6, 2), (5, 9, 2, 1), (3, 4, 2, 0), (1, 2, 7, 2)),       # the zone before at the same price: its own members only
+    run_of((65535, 65535, 6, 2), (65534, 65535, 8, 2)),                     # the last bars
+    run_of((65535, 65534, 6, 2), (0, 65535, 8, 2)),
+    run_of((0, 65535, 6, 2), (65535, 0, 8, 2)),                             # the last and the first
+    run_of((65535, 0, 4, 4)),
+    run_of((0, 256, 6, 2), (0, 255, 8, 2)),                                 # by number, not by bytes
+    run_of((0, 255, 6, 2), (0, 256, 8, 2)),
+    run_of((0, 32768, 6, 2), (0, 32767, 8, 2)),
+    run_of((14, 18, 6, 0), (5, 9, 8, 0)),                                   # a tie at 0
+    run_of((14, 18, 6, 0), (5, 9, 8, 5e-324)),                              # prices a bit apart are no tie
+    run_of((14, 18, 6, -5e-324), (5, 9, 8, 0)),
+    run_of((14, 18, 6, 2), (5, 9, 8, 2.0000000000000004)),
+    run_of((14, 18, 6, -1.7976931348623157e308), (5, 9, 8, -1.7976931348623157e308)),
+]
+
+def tied_zones():
+    """255, 256 and 257 zones, each with a tie that the later member decides: bars fall through all bigs"""
+    pairs = [span for i in range(16) for span in ((99 - 6 * i, 98 - 6 * i, 3 * i + 2, 3 * i), (97 - 6 * i, 95 - 6 * i, 3 * i + 2, 3 * i))]
+    return [run_of(*pairs, superiors=[(1, 0, 31)] * 15 + more) for more in ([(1, 0, 29)], [(1, 0, 31)], [(1, 0, 31), (1, 5, 5)])]
+
 def outside():
     """K with a bar too few; K with a stroke that nothing names and that ends behind the bars: 3+N marks are refused with 9"""
     few, unnamed = chart_k(), chart_k()
@@ -479,6 +542,43 @@ def numbered_like(r):
     c = Chart(strokes, one_each(strokes), bigs, superiors, [(high, r.choice(lows)) for _ in range(n + 1 - (r.random() < 0.1))])
     return c if d else mirrored(c)
 
+def tied_like(r):
+    """bigs of one stroke or three, most of them against the first superior, with prices that are equal again and again: in a third of the charts three,
+    in the others some more; bars that rise, fall, or are in no order, at times up to 65,535; at times ranges that are missing, or about 256 zones"""
+    prices = [float(p) for p in r.sample(range(-4, 5), 3 if r.random() < 1 / 3 else r.choice([4, 5, 7]))]
+    n, d, missing, three = r.randrange(2, 14), r.randrange(2), r.choice([0, 0, 0.1, 0.3]), r.choice([0, 0.3])
+    strokes, segments, bigs = [], [], []
+    for _ in range(n):
+        turned, first = 1 - d if r.random() < 0.8 else d, len(segments)
+        for size in r.choice([[3], [1, 1, 1]]) if r.random() < three else [1]:
+            strokes += [(r.randrange(2), 0, 0, r.choice(prices), r.choice(prices)) for _ in range(size)]
+            segments.append((turned, len(strokes) - size, len(strokes) - 1))
+        last = len(segments) - 1
+        names = (first, last) if r.random() >= missing else r.choice([(last + 1, first), (last + 1, first), (first, 65535)])
+        bigs.append((turned, *names))
+    superiors = [(d, r.choice([0, 0, 1]), n - 1)]
+    for _ in range(r.choice([0, 0, 1, 2])):
+        first = r.randrange(n)
+        superiors.append((r.randrange(2), first, r.randrange(first, n + (r.random() < 0.1))))
+    c = Chart([(up, *bars, p, q) for (up, _, _, p, q), bars in zip(strokes, tied_bars(r, len(strokes)))], segments, bigs, superiors)
+    return repeated(r, c) if r.random() < 0.06 else c
+
+def tied_bars(r, n):
+    """start and end bars of n strokes"""
+    how, step, last = r.choice(["rise", "fall", "fall", "any", "any"]), r.choice([1, 2]), 65535 if r.random() < 0.1 else 0
+    bars = [(step * k, step * k + step) for k in range(n)]
+    most = last or step * n
+    if how == "fall":
+        return [(most - a, most - e) for a, e in bars]
+    if how == "rise":
+        return [(most - step * n + a, most - step * n + e) for a, e in bars]
+    return [(most - r.randrange(step * n + 1), most - r.randrange(step * n + 1)) for _ in bars]
+
+def repeated(r, c):
+    """the same chart with its first superior alone, as often as gives about 256 zones"""
+    zones = len(model.zones(model.of(Chart(*c.parts()[:3], c.superiors[:1]))))
+    return Chart(*c.parts()[:3], c.superiors[:1] * min(256, r.choice([255, 256, 257, 300]) // max(zones, 1)))
+
 def crowded(r):
     """as many zones as there may be, about: a ladder under superiors that have all of it, or the last of them a part, and a leave with its retest"""
     n, zones = r.randrange(4, 65), r.choice([255, 256, 257, 300])
@@ -520,7 +620,16 @@ def lent(r, c):
     half = len(prices) // 2 if r.random() < 0.3 else 0
     return [(near(prices[:len(prices) - half]), near(prices[half:])) for _ in range(min(n, 2048))]
 
+def tied(seed, i):
+    """a chart made for ties, with its bars"""
+    r = random.Random(f"ties {seed} {i}")
+    c = tied_like(r)
+    c.bars = lent(r, c)
+    return c
+
 def generated(seed, i):
+    if random.Random(f"kinds {seed} {i}").random() < 0.05:
+        return rolled(random.Random(f"rolls {seed} {i}"), tied(seed, i), 0.1)
     r = random.Random(f"{seed} {i}")
     c = r.choices([live_like, wild, first_like, third_like, numbered_like, crowded], [21, 21, 21, 21, 15, 1])[0](r)
     c.bars = c.bars or lent(r, c)
@@ -541,7 +650,8 @@ def special():
     shapes = [full(s, bars=1024 * (name == "short")) for name, s in SHAPES.items()]
     marks = THIRDS + [mirrored(c) for c in THIRDS] + [many_thirds()] + NUMBERED + [mirrored(c) for c in NUMBERED]
     made = [Chart(), chart_k(), chart_k(20.0), short] + zones + shapes + for_classes() + marks + outside() + bars_and_zones() + [all_bars()]
-    return made + [jumping_k(), mirrored(jumping_k()), with_rolls(chart_k(), 0), with_rolls(chart_k(), *range(8)), all_strokes()]
+    made += [jumping_k(), mirrored(jumping_k()), with_rolls(chart_k(), 0), with_rolls(chart_k(), *range(8)), all_strokes()]
+    return made + EXTREMES + [mirrored(c) for c in EXTREMES] + tied_zones() + [mirrored(tied_zones()[1])] + [tied(6, i) for i in range(40)]
 
 def for_classes():
     """first marks of each side, in and out of order and at one bar; the borders of each comparison; 1, 2 and 6 items (6: P5); one or two, the last of

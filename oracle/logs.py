@@ -223,16 +223,16 @@ def for_derive():
 
 # ---- zones
 
-K_ZONE = "zone 0 5 18 4030000000000000 4034000000000000 402C000000000000 4038000000000000 1 2"
+K_ZONE = "zone 0 5 18 4030000000000000 4034000000000000 402C000000000000 4038000000000000 1 2 9 14"
 # K's zone, then opposing [17, 18] and [18.5, 19.5] inside it, and [20.5, 25] above it
 INSIDE = charts.K_TURNS[:5] + [(25, 18), (29, 17), (33, 19.5), (38, 18.5), (40, 25), (44, 20.5), (50, 30)]
 
 # P6: two zones at a touch; P7: a touch extends; zd and zg are settled by two members
-TWO = """zone 0 5 9 402C000000000000 4034000000000000 402C000000000000 4034000000000000 1 1
-zone 0 14 18 4034000000000000 4038000000000000 4034000000000000 4038000000000000 3 1"""
-THREE = "zone 0 5 29 4030000000000000 4034000000000000 402C000000000000 403B000000000000 1 3"
-FOUR = """zone 0 5 38 4030000000000000 4034000000000000 402C000000000000 4038000000000000 1 4
-zone 0 40 44 4034800000000000 4039000000000000 4034800000000000 4039000000000000 9 1"""
+TWO = """zone 0 5 9 402C000000000000 4034000000000000 402C000000000000 4034000000000000 1 1 9 5
+zone 0 14 18 4034000000000000 4038000000000000 4034000000000000 4038000000000000 3 1 18 14"""
+THREE = "zone 0 5 29 4030000000000000 4034000000000000 402C000000000000 403B000000000000 1 3 9 25"
+FOUR = """zone 0 5 38 4030000000000000 4034000000000000 402C000000000000 4038000000000000 1 4 9 14
+zone 0 40 44 4034800000000000 4039000000000000 4034800000000000 4039000000000000 9 1 44 40"""
 
 def for_zones():
     k, bigs = calls_of(charts.chart_k()), calls_of(charts.simple(charts.K_TURNS, []))
@@ -247,6 +247,54 @@ def for_zones():
     out += [answered(f"withdrawn, added again as {t}", [(k + [('W', 3), sup(*t)], 0)]) for t in ((1, 0, 4), (0, 0, 4), (1, 3, 7), (0, 2, 2))]
     out += [answered("withdrawn", [(k + [('W', 3)], 0)]), answered("two superiors", [(k + [sup(0, 5, 7)], 0)])]
     return out + [answered("four superiors", [(bigs + [sup(d, 2 * i, 2 * i + 1) for i, d in enumerate((1, 0, 0, 1))], 0)])]
+
+# ---- bars of dd and gg (02, request 6): charts and their one zone
+
+def grouped(points, segments, superior):
+    """strokes from turn to turn under segments (direction, first, last), each a big"""
+    return charts.Chart(charts.turns(points), segments, [(t[0], i, i) for i, t in enumerate(segments)], [superior])
+
+# opposing lows 14, 14 and 12, with highs 20, 24 and 30
+LOWS = [(0, 10), (5, 20), (9, 14), (14, 24), (18, 14), (25, 30), (29, 12), (33, 35)]
+LAST = [(0, 10), (5, 20), (65530, 14), (65533, 24)]
+TIES = {
+    "dd at two members": (charts.simple(LOWS, [(1, 0, 4)]), "0 5 18 402C000000000000 4034000000000000 402C000000000000 4038000000000000 1 2 9 14"),
+    "gg at two members": (charts.simple([(0, 10), (5, 24), (9, 14), (14, 24), (18, 16), (25, 30)], [(1, 0, 4)]),
+        "0 5 18 4030000000000000 4038000000000000 402C000000000000 4038000000000000 1 2 9 5"),
+    "both at three members": (charts.simple([(0, 10), (5, 24), (9, 14), (14, 24), (18, 14), (22, 24), (26, 14), (30, 40)], [(1, 0, 6)]),
+        "0 5 26 402C000000000000 4038000000000000 402C000000000000 4038000000000000 1 3 9 5"),
+    "behind two at one price a lower one": (charts.simple(LOWS, [(1, 0, 6)]),
+        "0 5 29 402C000000000000 4034000000000000 4028000000000000 403E000000000000 1 3 29 25"),
+    "gg at two members by a roll": (charts.Chart([(*s, 0) if k != 3 else (0, 14, 18, 20.0, 16.0, 1) for k, s in enumerate(charts.turns(charts.K_TURNS))],
+        *charts.chart_k().parts()[1:]), "0 5 18 4030000000000000 4034000000000000 402C000000000000 4034000000000000 1 2 9 5"),
+    "a level big": (grouped([(0, 10), (5, 20), (9, 14), (14, 20), (18, 16)], [(1, 0, 0), (0, 1, 2), (0, 3, 3)], (1, 0, 1)),
+        "0 5 14 4034000000000000 4034000000000000 4034000000000000 4034000000000000 1 1 5 5"),
+    "a level big as the third member": (grouped(LOWS[:5] + [(22, 24), (26, 14)], [(1, 0, 0), (0, 1, 1), (1, 2, 2), (0, 3, 3), (0, 4, 5)], (1, 0, 4)),
+        "0 5 26 402C000000000000 4034000000000000 402C000000000000 4038000000000000 1 3 9 14"),
+    "the price inside a big before its end": (grouped([(0, 10), (5, 20), (9, 14), (12, 16), (15, 14), (20, 30)], [(1, 0, 0), (0, 1, 3), (1, 4, 4)], (1, 0, 1)),
+        "0 5 15 402C000000000000 4034000000000000 402C000000000000 4034000000000000 1 1 15 5"),
+    "a lower price inside a big": (grouped([(0, 10), (5, 20), (9, 12), (12, 16), (15, 14), (20, 30)], [(1, 0, 0), (0, 1, 3), (1, 4, 4)], (1, 0, 1)),
+        "0 5 15 402C000000000000 4034000000000000 402C000000000000 4034000000000000 1 1 15 5"),
+    "dd at two members, the last bars": (charts.simple(LAST + [(65535, 14)], [(1, 0, 3)]),
+        "0 5 65535 402C000000000000 4034000000000000 402C000000000000 4038000000000000 1 2 65530 65533"),
+    "dd at the last bar": (charts.simple(LAST + [(65535, 13)], [(1, 0, 3)]),
+        "0 5 65535 402C000000000000 4034000000000000 402A000000000000 4038000000000000 1 2 65535 65533"),
+}
+# of LOWS upside down
+LOWS_DOWN = "zone 0 5 18 C034000000000000 C02C000000000000 C038000000000000 C02C000000000000 1 2 14 9"
+
+def for_extremes():
+    """each as it is, with its zone, and upside down; and a superior that is lengthened to two members at one price, and to a lower one"""
+    out = [made(name, calls_of(c), "zone " + want) for name, (c, want) in TIES.items()]
+    down = [(name, charts.mirrored(c)) for name, (c, _) in TIES.items()]
+    out += [made(name + ", upside down", calls_of(c), f"count {len(calls_of(c))}") for name, c in down]
+    out.append(made("gg again, upside down", calls_of(down[0][1]) + [('L', 5), ('W', 3), ('U', 0, 0, 4)], LOWS_DOWN))
+    bigs, wants = calls_of(charts.simple(LOWS, [])), [TIES[name][1] for name in ("dd at two members", "behind two at one price a lower one")]
+    longer = [('U', 1, 0, 1)], [('L', 3)], [('L', 5)]
+    zones = ["0 5 9 402C000000000000 4034000000000000 402C000000000000 4034000000000000 1 1 9 5"] + wants
+    out += [made(f"lengthened: {want}", bigs + sum(longer[:n + 1], []), "zone " + want) for n, want in enumerate(zones)]
+    again = "zone 0 14 18 402C000000000000 4038000000000000 402C000000000000 4038000000000000 3 1 18 14"
+    return out + [made("without the first of two at one price", bigs + [('U', 1, 0, 4), ('W', 3), ('U', 1, 2, 4)], again)]
 
 # ---- full levels
 
@@ -290,21 +338,21 @@ def for_length():
 
 # ---- bars: what stands at the end of the output, or all of it
 
-K_ZONE_DOWN = "zone 0 5 18 C034000000000000 C030000000000000 C038000000000000 C02C000000000000 1 2"
+K_ZONE_DOWN = "zone 0 5 18 C034000000000000 C030000000000000 C038000000000000 C02C000000000000 1 2 14 9"
 K_THIRD, K_ORDER_0, K_ORDER_1 = "third buy 29 403A000000000000 zone 4034000000000000", "threen buy 0 29 403A000000000000", "threen buy 1 38 4033000000000000"
 # the zone of K with a roll, whose gg is 27, and the same upside down
-ROLL_ZONE = "zone 0 5 18 4030000000000000 4034000000000000 402C000000000000 403B000000000000 1 2"
-ROLL_ZONE_DOWN = "zone 0 5 18 C034000000000000 C030000000000000 C03B000000000000 C02C000000000000 1 2"
+ROLL_ZONE = "zone 0 5 18 4030000000000000 4034000000000000 402C000000000000 403B000000000000 1 2 9 14"
+ROLL_ZONE_DOWN = "zone 0 5 18 C034000000000000 C030000000000000 C03B000000000000 C02C000000000000 1 2 14 9"
 K_SELLS = "third sell 29 C03A000000000000 zone C034000000000000", "threen sell 0 29 C03A000000000000", "threen sell 1 38 C033000000000000"
 # K's superior from its third big on: [16, 24] is the zone, and the two bigs before it are anchors whose C is 24
-ANCHORED = ("zone 0 14 18 4030000000000000 4038000000000000 4030000000000000 4038000000000000 3 1",
+ANCHORED = ("zone 0 14 18 4030000000000000 4038000000000000 4030000000000000 4038000000000000 3 1 18 14",
     "third buy 29 403A000000000000 zone 4038000000000000", "third buy 18 4039000000000000 anchor 4038000000000000",
     K_ORDER_0, "threen buy 0 18 4039000000000000", K_ORDER_1)
-ANCHORED_DOWN = ("zone 0 14 18 C038000000000000 C030000000000000 C038000000000000 C030000000000000 3 1",
+ANCHORED_DOWN = ("zone 0 14 18 C038000000000000 C030000000000000 C038000000000000 C030000000000000 3 1 14 18",
     "third sell 29 C03A000000000000 zone C038000000000000", "third sell 18 C039000000000000 anchor C038000000000000",
     "threen sell 0 29 C03A000000000000", "threen sell 0 18 C039000000000000", "threen sell 1 38 C033000000000000")
 # a down superior behind it, whose zone [26, 35] stops the zone's scan at bar 29 and is left downwards; the anchors stop at its end bar 33
-BOTH = ("zone 1 29 33 403A000000000000 4041800000000000 403A000000000000 4041800000000000 6 1",
+BOTH = ("zone 1 29 33 403A000000000000 4041800000000000 403A000000000000 4041800000000000 6 1 29 33",
     "third sell 43 4034000000000000 zone 403A000000000000", "third buy 18 4039000000000000 anchor 4038000000000000",
     "threen sell 0 43 4034000000000000", "threen buy 0 18 4039000000000000", "threen buy 1 29 403A000000000000")
 
@@ -415,7 +463,7 @@ def small_log():
 
 def special():
     calls = for_strokes() + [t for letter in "GBU" for t in for_triples(letter)] + for_lengthen() + for_withdraw() + for_derive() + for_zones() + for_full()
-    return for_spelling() + for_length() + calls + for_bars() + for_readings()
+    return for_spelling() + for_length() + calls + for_extremes() + for_bars() + for_readings()
 
 # ---- generated logs
 

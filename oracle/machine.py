@@ -204,13 +204,11 @@ def spelled(log):
         at += 1 + fields.size
     return entries
 
-def zone_row(z): return f'{z.sup} {z.start} {z.end} {model.hx(z.zd)} {model.hx(z.zg)} {model.hx(z.dd)} {model.hx(z.gg)} {z.first} {z.members}'
-
 def printed(answers, m):
     lines = [*map(str, answers), f'count {m.count}']
     lines += ['stroke %d %d %d %016X %016X %d' % s for s in m.levels[0]]
     lines += ['%s %d %d %d' % (name, *t) for name, level in zip(NAMES[1:], m.levels[1:]) for t in level]
-    zones = ['zone ' + zone_row(z) for z in m.zones()]
+    zones = ['zone ' + model.zone_row(z) for z in m.zones()]
     lines += mark_lines(m) + zones if on('marks before zones') else zones + mark_lines(m)
     return ''.join(line + '\n' for line in lines).encode()
 

@@ -1,7 +1,7 @@
-// Prints what the reference Rust gives for charts. Reading, the refusals, a zone's members and a third mark's ground, which the reference
-// lacks, are written here from documents 01 and 02 (requests 2, 14) alone, over the reference's ranges and end points. Of a third mark side, bar,
-// price and place among the rows are the reference's; the ground is that of `thirds`, 01's rule over the reference's zones, and its rows must
-// be the reference's, or this program panics.
+// Prints what the reference Rust gives for charts. Reading, the refusals, the bars of a range's low and high, a zone's members and the bars of its
+// dd and gg, and a third mark's ground, which the reference lacks, are written here from documents 01 and 02 (requests 2, 6, 14) alone, over the
+// reference's ranges and end points. Of a third mark side, bar, price and place among the rows are the reference's; the ground is that of `thirds`,
+// 01's rule over the reference's zones, and its rows must be the reference's, or this program panics.
 //   oracle one CHART BARS SECTION..  a chart file and a bars file
 //   oracle many SECTION..            many on standard input: each file a length (u32, little-endian) and that many bytes; a line `CHART i` before each two
 // Sections: passed ranges zones third threen labels classes firsts
@@ -102,8 +102,28 @@ fn range(c: &Chart, k: usize) -> Option<z::BigSegmentZhongShu> {
 // end bar and end price of a big, range missing or not
 fn end_point(c: &Chart, k: usize) -> Option<(usize, f64)> { chanlun::guidao::end_point(k, &c.bigs, &c.segments, &c.strokes) }
 
-// first member and member count of each zone, by 01's rule
-fn members(c: &Chart) -> Vec<(usize, usize)> {
+// The bars of the low and the high of a big's range (02, request 6): the start bar where its first stroke starts at that price, else the end bar
+fn range_bars(c: &Chart, k: usize, r: &z::BigSegmentZhongShu) -> (usize, usize) {
+    let (first, last, _) = c.bigs[k];
+    let (start, end) = (&c.strokes[c.segments[first].0], &c.strokes[c.segments[last].1]);
+    let bar = |price: f64| match (start.start_price == price, end.end_price == price) {
+        (true, _) => start.start_bar,
+        (false, true) => end.end_bar,
+        _ => panic!("a range whose low or high is neither of its prices"),
+    };
+    (bar(r.dd), bar(r.gg))
+}
+
+// The bars of dd and gg of a zone: the smallest among its members on equal prices (02, request 6)
+fn zone_bars(c: &Chart, zone: &z::BigSegmentZhongShu, members: &[usize]) -> (usize, usize) {
+    let spans: Vec<_> = members.iter().map(|&k| range(c, k).map(|r| (r.dd, r.gg, range_bars(c, k, &r))).unwrap()).collect();
+    let low = spans.iter().filter(|s| s.0 == zone.dd).map(|s| s.2.0).min();
+    let high = spans.iter().filter(|s| s.1 == zone.gg).map(|s| s.2.1).min();
+    low.zip(high).expect("a zone whose dd or gg is no member's")
+}
+
+// the members of each zone, by 01's rule
+fn members(c: &Chart) -> Vec<Vec<usize>> {
     let mut out = vec![];
     for &(first, last, up) in &c.superiors {
         if last >= c.bigs.len() { continue; }
@@ -116,10 +136,10 @@ fn members(c: &Chart) -> Vec<(usize, usize)> {
                 1 => f64::max(run[0].1, low) < f64::min(run[0].2, high),
                 _ => low <= f64::min(run[0].2, run[1].2) && high >= f64::max(run[0].1, run[1].1),
             };
-            if !joins { out.push((run[0].0, run.len())); run.clear(); }
+            if !joins { out.push(run.iter().map(|m| m.0).collect()); run.clear(); }
             run.push((k, low, high));
         }
-        if !run.is_empty() { out.push((run[0].0, run.len())); }
+        if !run.is_empty() { out.push(run.iter().map(|m| m.0).collect()); }
     }
     out
 }
@@ -183,7 +203,10 @@ fn side(buy: bool) -> &'static str { if buy { "buy" } else { "sell" } }
 fn ranges(c: &Chart, out: &mut String) {
     *out += &format!("RANGES {}\n", c.bigs.len());
     for k in 0..c.bigs.len() {
-        let range = range(c, k).map_or("missing".to_string(), |r| format!("{} {} {} {}", r.start_bar, r.end_bar, hex(r.dd), hex(r.gg)));
+        let range = range(c, k).map_or("missing".to_string(), |r| {
+            let (low, high) = range_bars(c, k, &r);
+            format!("{} {} {} {} {low} {high}", r.start_bar, r.end_bar, hex(r.dd), hex(r.gg))
+        });
         let end = end_point(c, k).map_or("none".to_string(), |(bar, price)| format!("{bar} {}", hex(price)));
         *out += &format!("{range} {end}\n");
     }
@@ -250,8 +273,12 @@ fn report(chart: &[u8], bars: &[u8], sections: &[String], out: &mut String) {
             "zones" if zones.len() > 256 => *out += "ZONES refused 11\n",
             "zones" => {
                 *out += &format!("ZONES {}\n", zones.len());
-                for (z, m) in zones.iter().zip(members(&c)) {
-                    *out += &format!("{} {} {} {} {} {} {} {} {}\n", z.sup_idx, z.start_bar, z.end_bar, hex(z.zd), hex(z.zg), hex(z.dd), hex(z.gg), m.0, m.1);
+                let members = members(&c);
+                assert!(zones.len() == members.len(), "other zones than the reference's");
+                for (z, m) in zones.iter().zip(members) {
+                    let (low, high) = zone_bars(&c, z, &m);
+                    *out += &format!("{} {} {} {} {} {} {}", z.sup_idx, z.start_bar, z.end_bar, hex(z.zd), hex(z.zg), hex(z.dd), hex(z.gg));
+                    *out += &format!(" {} {} {low} {high}\n", m[0], m.len());
                 }
             }
             "labels" if zones.len() > 256 => *out += "LABELS refused 11\n",

@@ -6,7 +6,7 @@ from collections import namedtuple
 import bars_file
 from bars_file import Refused
 Chart = namedtuple('Chart', 'strokes segs bigs sups highs lows')
-Zone = namedtuple('Zone', 'sup start end zd zg dd gg first members')
+Zone = namedtuple('Zone', 'sup start end zd zg dd gg first members dd_bar gg_bar')
 SW = set()
 def on(s): return s in SW
 def of(c):
@@ -21,13 +21,19 @@ def first_stroke(c, b):
 def last_stroke(c, b):
     s = get(c.segs, b[2]); return None if s is None else get(c.strokes, s[2])
 def rng(c, b):
-    """(low, high, start bar, end bar) or None"""
+    """(low, high, start bar, end bar, bar of the low, bar of the high) or None"""
     if b[1] > b[2] and not on('range-any-order'): return None
     s, e = first_stroke(c, b), last_stroke(c, b)
     if s is None or e is None: return None
     if on('range-of-first-stroke'): e = s
     if on('range-of-last-stroke'): s = e
-    return (min(s[3], e[4]), max(s[3], e[4]), s[1], e[2])
+    return (min(s[3], e[4]), max(s[3], e[4]), s[1], e[2], *range_bars(s[3], s[1], e[4], e[2]))
+def range_bars(p, start, q, end):
+    """02, request 6: which of the two bars, with the prices p and q, gave the low and which the high; the start bar where both prices are equal"""
+    if p == q and on('range-tie-end'): return (end, end)
+    if p == q and on('range-tie-smaller'): return (min(start, end),) * 2
+    if p == q and on('range-tie-each'): return (start, end)
+    return (start, start) if p == q else (start, end) if p < q else (end, start)
 def end_point(c, i):
     """the last stroke of a big's last segment, or None"""
     b = get(c.bigs, i)
@@ -40,9 +46,28 @@ def asked(*functions):
     """the switches that functions ask for"""
     return list(dict.fromkeys(re.findall(r"on\('([^']+)'\)", ''.join(map(inspect.getsource, functions)))))
 def range_switches():
-    return asked(rng, end_point)
+    return asked(rng, range_bars, end_point)
 
 # ---- zones
+def stroke_bars(c, j, price):
+    """every bar at which a stroke of big j starts or ends at a price"""
+    strokes = [t for s in c.segs[c.bigs[j][1]:c.bigs[j][2] + 1] for t in c.strokes[s[1]:s[2] + 1]]
+    return [bar for t in strokes for p, bar in ((t[3], t[1]), (t[4], t[2])) if p == price]
+def extreme(c, price, ms):
+    """02, request 6: the bar of a zone's dd or gg, the smallest among its members on equal prices. ms: of each member its index, its price of the kind, the
+    bar of that, and its range"""
+    bars = [bar for _, p, bar, _ in ms if p == price]
+    if on('zone-tie-first'): return bars[0]
+    if on('zone-tie-last'): return bars[-1]
+    if on('zone-tie-larger'): return max(bars)
+    if on('zone-first-member'): return ms[0][2]
+    if on('zone-least-of-all'): return min(bar for _, _, bar, _ in ms)
+    if on('zone-tie-both-bars'): bars += [r[3] for _, p, _, r in ms if p == price and r[0] == r[1]]
+    if on('zone-tie-every-bar'): bars += [bar for j, p, _, _ in ms if p == price for bar in stroke_bars(c, j, price)]
+    return min(bars)
+def with_bars(c, z, ms):
+    """a zone of members (index, range) with the bars of its dd and gg"""
+    return z._replace(dd_bar=extreme(c, z.dd, [(j, r[0], r[4], r) for j, r in ms]), gg_bar=extreme(c, z.gg, [(j, r[1], r[5], r) for j, r in ms]))
 def zones(c):
     out = []
     for h, s in enumerate(c.sups):
@@ -55,7 +80,7 @@ def zones(c):
                 if on('missing-counts') and ms: ms.append((j, ms[-1][1]))
                 continue
             ms.append((j, r))
-        z = None
+        z, run = None, []
         for j, r in ms:
             if z is None: joins = False
             elif z.members == 1:
@@ -68,17 +93,38 @@ def zones(c):
                 if z.members == 1: zd, zg = max(zd, r[0]), min(zg, r[1])
                 elif on('narrow-zd'): zd = max(zd, r[0])
                 elif on('narrow-zg'): zg = min(zg, r[1])
-                z = Zone(h, z.start, z.end if on('end-not-moved') else r[3], zd, zg, z.dd if on('dd-not-widened') else min(z.dd, r[0]), z.gg if on('gg-not-widened') else max(z.gg, r[1]), z.first, z.members + 1)
+                dd, gg = z.dd if on('dd-not-widened') else min(z.dd, r[0]), z.gg if on('gg-not-widened') else max(z.gg, r[1])
+                z = Zone(h, z.start, z.end if on('end-not-moved') else r[3], zd, zg, dd, gg, z.first, z.members + 1, None, None)
+                run.append((j, r))
             else:
-                if z is not None: out.append(z)
-                z = Zone(h, r[2], r[3], r[0], r[1], r[0], r[1], j, 1)
-        if z is not None: out.append(z)
+                if z is not None: out.append(with_bars(c, z, run))
+                z, run = Zone(h, r[2], r[3], r[0], r[1], r[0], r[1], j, 1, None, None), [(j, r)]
+        if z is not None: out.append(with_bars(c, z, run))
     return out
+def zone_switches():
+    """the switches that zones ask for, but those of the ranges' prices"""
+    return asked(range_bars, zones, extreme)
 
 def members(c, z):
     s = c.sups[z.sup]
     js = [j for j in range(s[1], min(s[2], len(c.bigs) - 1) + 1) if c.bigs[j][0] != s[0] and rng(c, c.bigs[j]) is not None and j >= z.first]
     return js[:z.members]
+def ties(c):
+    """what decides the bars of low and high, of dd and gg"""
+    spans, out, zs = [rng(c, b) for b in c.bigs], set(), zones(c)
+    for low, high, start, end, *_ in filter(None, spans):
+        if low == high and start != end: out.add('a range with equal prices and different bars')
+        if low == high and start > end: out.add('such a range whose end bar is smaller')
+    for z in zs if len(zs) <= 256 else []:
+        own = [spans[j] for j in members(c, z)]
+        for k, price, bar in ((0, z.dd, z.dd_bar), (1, z.gg, z.gg_bar)):
+            bars = [r[4 + k] for r in own if r[k] == price]
+            if len(set(bars)) > 1: out.add('a tie between members with different bars')
+            if bar < bars[0]: out.add('a tie whose smallest bar is a later member\'s')
+            if any(r[0] == r[1] == price and r[3] < bar for r in own): out.add('a level member whose end bar is smaller than the bar')
+            if bar == 65535: out.add('a bar 65,535 of dd or gg')
+            if bar > min(r[4 + k] for r in own): out.add('a smaller bar of a member with another price')
+    return out
 
 # ---- the scan
 def scan(c, zs, z):
@@ -490,12 +536,15 @@ def class_rows(byte, items): return [f'{k[0]} {k[1]} {int(k[2])} {3 if k[3] else
 def nine(c):
     """some stroke's end bar is outside the slices"""
     return any(s[2] >= len(c.highs) for s in c.strokes)
-def range_row(r, e): return ('missing ' if r is None else f'{r[2]} {r[3]} {hx(r[0])} {hx(r[1])} ') + ('none' if e is None else f'{e[2]} {hx(e[4])}')
+def range_row(r, e):
+    span = 'missing' if r is None else f'{r[2]} {r[3]} {hx(r[0])} {hx(r[1])} {r[4]} {r[5]}'
+    return span + (' none' if e is None else f' {e[2]} {hx(e[4])}')
+def zone_row(z): return f'{z.sup} {z.start} {z.end} {hx(z.zd)} {hx(z.zg)} {hx(z.dd)} {hx(z.gg)} {z.first} {z.members} {z.dd_bar} {z.gg_bar}'
 def report(c, passed=0):
     zs = zones(c)
     many = len(zs) > 256
     o = [f'PASSED {passed}'] + section('RANGES', [range_row(r, e) for r, e in ranges(c)])
-    o += ['ZONES refused 11'] if many else section('ZONES', [f'{z.sup} {z.start} {z.end} {hx(z.zd)} {hx(z.zg)} {hx(z.dd)} {hx(z.gg)} {z.first} {z.members}' for z in zs])
+    o += ['ZONES refused 11'] if many else section('ZONES', [*map(zone_row, zs)])
     o += ['THIRD refused 11'] if many else section('THIRD', [f'{side(m[0])} {m[1]} {hx(m[2])} {m[3]} {hx(m[4])}' for m in third(c)])
     if nine(c): o += ['THREEN refused 9']
     elif many: o += ['THREEN refused 11']

@@ -101,7 +101,7 @@ fn bar_of(range: Range) -> Bar
 }
 
 // The bars of the m bigs in the tables.
-fn bars_of(bars: &[[u16; 8]; 256], prices: &[[f64; 3]; 256], m: usize) -> Bars
+fn bars_of(bars: &[[u16; 6]; 256], prices: &[[f64; 3]; 256], m: usize) -> Bars
     requires { ⌜ m ≤ 256 ⌝ }
     ensures { λ r. ⌜ Wide (r .starts) (r .ends) ⌝ }
     ensures { λ r. ⌜ ((c : Levels) → Bigs c m (now (bars .entry)) (now (prices .entry))
@@ -224,10 +224,10 @@ fn label_of(last: Last, zone: Zone, alone: bool) -> Labelled
 
 // The labels of the n zones in two tables, in order, over the m bigs in two others.
 fn labels_of(
-    zb: &[[u16; 7]; 256],
+    zb: &[[u16; 8]; 256],
     zp: &[[f64; 4]; 256],
     n: usize,
-    bars: &[[u16; 8]; 256],
+    bars: &[[u16; 6]; 256],
     prices: &[[f64; 3]; 256],
     m: usize,
 ) -> LabelRows
@@ -273,10 +273,10 @@ fn refusal(number: u8) -> LabelRows
 pub fn detect_bigseg_trend_zhongshus(chart: Chart) -> LabelRows
     ensures { λ r. ⌜ rowsAnswer (r .number) (r .count) (map labelBytes (r .rows)) ≡ labelsCall chart ⌝ }
 {
-    let mut bars = [[0u16; 8]; 256];
+    let mut bars = [[0u16; 6]; 256];
     let mut prices = [[0.0; 3]; 256];
     let mut sups = [[0u16; 5]; 256];
-    let mut zb = [[0u16; 7]; 256];
+    let mut zb = [[0u16; 8]; 256];
     let mut zp = [[0.0; 4]; 256];
     let begun = zones::tables_of(
         chart,

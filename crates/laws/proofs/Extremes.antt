@@ -15,7 +15,7 @@ use Rattle.laws.proofs.Tests.{pick-cond}
 use Rattle.laws.proofs.Lists.{All, nil, cons}
 use Rattle.laws.proofs.Runs.{Point}
 
--- an order of prices: `beyond p q` is whether p lies strictly before q
+-- an order of prices: `beyond p q` is whether p is strictly beyond q
 pub record Linear (beyond : Float → Float → Bool) : Type 0 where
   pub one-way : (p q : Float) → Price p → Price q → beyond p q ≡ true → beyond q p ≡ false
   pub same : (p q : Float) → Price p → Price q → beyond p q ≡ false → beyond q p ≡ false → p ≡ q
@@ -29,13 +29,17 @@ lower-first =
       through = λ p q r a b c h k. simp keys (omega (tests, simp keys at h, simp keys at k));
     }
 
-pub higher-first : Linear (λ (p q : Float). lt q p)
-higher-first =
+-- the same order the other way round
+turned : (beyond : Float → Float → Bool) → Linear beyond → Linear (λ (p q : Float). beyond q p)
+turned beyond order =
     record {
-      one-way = λ p q a b h. simp keys (omega (tests, simp keys at h));
-      same = λ p q a b h k. key-inj p q a b (omega (tests, simp keys at h, simp keys at k));
-      through = λ p q r a b c h k. simp keys (omega (tests, simp keys at h, simp keys at k));
+      one-way = λ p q a b h. order .one-way q p b a h;
+      same = λ p q a b h k. order .same p q a b k h;
+      through = λ p q r a b c h k. order .through r q p c b a k h;
     }
+
+pub higher-first : Linear (λ (p q : Float). lt q p)
+higher-first = turned lt lower-first
 
 abbrev pub Priced : Point → Type 0
 Priced a = Price (a .price)

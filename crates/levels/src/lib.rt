@@ -130,7 +130,7 @@ pub fn within(i: u16, n: u16) -> usize
 }
 
 // The end bar where its price is beyond the start's, and else the start bar.
-fn bar_of(beyond: bool, end_bar: u16, start_bar: u16) -> u16
+pub fn bar_of(beyond: bool, end_bar: u16, start_bar: u16) -> u16
     ensures { λ r. ⌜ r ≡ cond beyond «end_bar» «start_bar» ⌝ }
 {
     if beyond { end_bar } else { start_bar }

@@ -17,7 +17,7 @@ ghost use Rattle.mark_anchors.specs.Anchored.{LimitAt, AnchorLimit, HasR
 // ---- where an anchor's hits stop
 
 // The end bar of the big at place `last`, if it has one.
-fn limit_at(bars: &[[u16; 8]; 256], prices: &[[f64; 3]; 256], m: usize, last: u16) -> u32
+fn limit_at(bars: &[[u16; 6]; 256], prices: &[[f64; 3]; 256], m: usize, last: u16) -> u32
     requires { ⌜ m ≤ 256 ⌝ }
     ensures { λ r. ⌜ LimitAt m (now (bars .entry)) (now (prices .entry)) last r ⌝ }
 {
@@ -36,7 +36,7 @@ fn limit_at(bars: &[[u16; 8]; 256], prices: &[[f64; 3]; 256], m: usize, last: u1
 pub fn anchor_limit(
     sups: &[[u16; 5]; 256],
     counts: Counts,
-    bars: &[[u16; 8]; 256],
+    bars: &[[u16; 6]; 256],
     prices: &[[f64; 3]; 256],
     buy: bool,
 ) -> u32
@@ -90,7 +90,7 @@ struct AnchorHits {
 
 // The hits of one anchor, numbered 0, 1, .. in index order of the bigs, behind n rows. A bar that reaches the limit ends them, hit or not.
 fn hit_rows(
-    bars: &[[u16; 8]; 256],
+    bars: &[[u16; 6]; 256],
     prices: &[[f64; 3]; 256],
     hits: AnchorHits,
     highs: &[f64],
@@ -135,7 +135,7 @@ fn hit_rows(
 
 // The rows of the anchors of a side, behind n rows.
 pub fn anchor_rows(
-    bars: &[[u16; 8]; 256],
+    bars: &[[u16; 6]; 256],
     prices: &[[f64; 3]; 256],
     side: Side,
     limit: u32,

@@ -121,7 +121,7 @@ fn is_behind(after: u16, bar: u16) -> bool
 
 // The next of m bigs from place `from` on.
 pub fn next_end(
-    bars: &[[u16; 8]; 256],
+    bars: &[[u16; 6]; 256],
     prices: &[[f64; 3]; 256],
     m: usize,
     up: bool,
@@ -152,7 +152,7 @@ pub fn next_end(
 // A place such that no big before it ends behind `after`, given one for the bar `last`. Where the end bars rise, as they do in a live chart,
 // the bigs of all anchors are passed over once.
 fn first_behind(
-    bars: &[[u16; 8]; 256],
+    bars: &[[u16; 6]; 256],
     prices: &[[f64; 3]; 256],
     m: usize,
     last: u16,
@@ -267,7 +267,7 @@ fn put_anchor(
 
 // The anchors of a side into lent tables; how many they are.
 pub fn anchors_of(
-    bars: &[[u16; 8]; 256],
+    bars: &[[u16; 6]; 256],
     prices: &[[f64; 3]; 256],
     side: Side,
     anchors: &mut [[u16; 3]; 256],

@@ -18,7 +18,7 @@ ghost use Rattle.mark_scan.specs.Scan.{ScanOf, ScannedTo, SearchFrom, Sc
 // The place of the first big from `first` to `last` that starts at bar e or later, and one past the last where there is none; m where
 // that is behind all m bigs. A big whose range is missing is passed over.
 fn start_of(
-    bars: &[[u16; 8]; 256],
+    bars: &[[u16; 6]; 256],
     prices: &[[f64; 3]; 256],
     m: usize,
     first: usize,
@@ -67,7 +67,7 @@ fn fewer(a: u16, b: u16) -> u16
 
 // The least start bar of a zone of another superior than h that starts behind bar e. Every zone is looked at, with no test that ends the
 // loop, so that many can be taken at once.
-fn next_zone(zb: &[[u16; 7]; 256], n: usize, h: u16, e: u16) -> u32
+fn next_zone(zb: &[[u16; 8]; 256], n: usize, h: u16, e: u16) -> u32
     requires { ⌜ n ≤ 256 ⌝ }
     ensures { λ r. ⌜ NextZone n (now (zb .entry)) 0 h e r ⌝ }
 {
@@ -93,7 +93,7 @@ fn is_next(h: u16, e: u16, owner: u16, start: u16) -> bool
 
 // The start bar of the first zone from place `from` on that is of another superior than h and starts behind bar e, where start bars never
 // fall.
-fn zone_behind(zb: &[[u16; 7]; 256], n: usize, from: usize, h: u16, e: u16) -> u32
+fn zone_behind(zb: &[[u16; 8]; 256], n: usize, from: usize, h: u16, e: u16) -> u32
     requires { ⌜ (n ≤ 256) × StartsRise n (now zb) ⌝ }
     ensures { λ r. ⌜ NextZone n (now (zb .entry)) from h e r ⌝ }
 {
@@ -109,7 +109,7 @@ fn zone_behind(zb: &[[u16; 7]; 256], n: usize, from: usize, h: u16, e: u16) -> u
 
 // As next_zone, for the zone at place `at`. Where no zone starts before the one before it, the first that counts behind that place is the
 // nearest.
-fn zone_limit(zb: &[[u16; 7]; 256], n: usize, rise: bool, at: usize) -> u32
+fn zone_limit(zb: &[[u16; 8]; 256], n: usize, rise: bool, at: usize) -> u32
     requires { ⌜ (at < n) × (n ≤ 256) × (rise ≡ true → StartsRise n (now zb)) ⌝ }
     ensures { λ r. ⌜ NextZone n (now (zb .entry)) 0 (getD (getD (now (zb .entry)) at []) 0 0) (getD (getD (now (zb .entry)) at []) 2 0) r ⌝ }
 {
@@ -124,7 +124,7 @@ fn zone_limit(zb: &[[u16; 7]; 256], n: usize, rise: bool, at: usize) -> u32
 }
 
 // Whether the start bars of the first n zones never fall.
-fn starts_rise(zb: &[[u16; 7]; 256], n: usize) -> bool
+fn starts_rise(zb: &[[u16; 8]; 256], n: usize) -> bool
     requires { ⌜ n ≤ 256 ⌝ }
     ensures { λ r. ⌜ (r ≡ true → StartsRise n (now (zb .entry))) ⌝ }
 {
@@ -196,7 +196,7 @@ fn smaller_limit(a: u32, b: u32) -> u32
 
 // Where the search for a scan's start begins: at the superior's first big, or where the scan of the zone before starts, if that is of the
 // same superior and ends no later.
-fn search_from(zb: &[[u16; 7]; 256], scans: &[[u32; 4]; 256], at: usize, first: usize) -> usize
+fn search_from(zb: &[[u16; 8]; 256], scans: &[[u32; 4]; 256], at: usize, first: usize) -> usize
     requires { ⌜ at < 256 ⌝ }
     ensures { λ r. ⌜ SearchFrom (now (zb .entry)) (now (scans .entry)) at first r ⌝ }
 {
@@ -217,10 +217,10 @@ fn search_from(zb: &[[u16; 7]; 256], scans: &[[u32; 4]; 256], at: usize, first: 
 // The row of the scan of the zone at place `at`, where the rows of those before are in `scans`; `rise` where the zones' start bars never
 // fall.
 fn scan_of(
-    bars: &[[u16; 8]; 256],
+    bars: &[[u16; 6]; 256],
     prices: &[[f64; 3]; 256],
     sups: &[[u16; 5]; 256],
-    zb: &[[u16; 7]; 256],
+    zb: &[[u16; 8]; 256],
     scans: &[[u32; 4]; 256],
     counts: Counts,
     rise: bool,
@@ -250,10 +250,10 @@ fn scan_of(
 
 // The scans of the zones into a table: of each its superior, that one's direction, where the scan starts, and the limit that stops it.
 pub fn scans_of(
-    bars: &[[u16; 8]; 256],
+    bars: &[[u16; 6]; 256],
     prices: &[[f64; 3]; 256],
     sups: &[[u16; 5]; 256],
-    zb: &[[u16; 7]; 256],
+    zb: &[[u16; 8]; 256],
     counts: Counts,
     scans: &mut [[u32; 4]; 256],
 )
@@ -289,7 +289,7 @@ pub fn reached(limit: u32, bar: u16) -> bool
 // From big `from` on: stop when there is no big k + 1, its range is missing or its end bar reaches the limit; skip k when its direction
 // isn't d.
 pub fn next_pair(
-    bars: &[[u16; 8]; 256],
+    bars: &[[u16; 6]; 256],
     prices: &[[f64; 3]; 256],
     m: usize,
     d: u32,

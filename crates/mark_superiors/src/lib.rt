@@ -19,7 +19,7 @@ ghost use Rattle.mark_superiors.specs.Superiors.{RisingAmong, PutsPairs,
 // The bars of a scan's pairs, put into k rising bars. Those of a scan mostly rise, so the search for a bar's place starts behind the bar
 // before it.
 fn zone_bars(
-    bars: &[[u16; 8]; 256],
+    bars: &[[u16; 6]; 256],
     prices: &[[f64; 3]; 256],
     m: usize,
     scan: Scan,
@@ -60,7 +60,7 @@ fn superior_bars(
     scans: &[[u32; 4]; 256],
     counts: Counts,
     from: usize,
-    bars: &[[u16; 8]; 256],
+    bars: &[[u16; 6]; 256],
     prices: &[[f64; 3]; 256],
     out: &mut [u32],
 ) -> OwnBars
@@ -88,7 +88,7 @@ fn superior_bars(
 pub fn superior_rows(
     sups: &[[u16; 5]; 256],
     scans: &[[u32; 4]; 256],
-    bars: &[[u16; 8]; 256],
+    bars: &[[u16; 6]; 256],
     prices: &[[f64; 3]; 256],
     counts: Counts,
     zeros: usize,

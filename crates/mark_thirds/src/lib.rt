@@ -74,7 +74,7 @@ fn put_hit(
 
 // The first hit of a zone's scan.
 fn zone_hit(
-    bars: &[[u16; 8]; 256],
+    bars: &[[u16; 6]; 256],
     prices: &[[f64; 3]; 256],
     m: usize,
     scan: Scan,
@@ -116,7 +116,7 @@ fn edge_of(direction: u32, zd: f64, zg: f64) -> f64
 
 // The first hit among the bigs of the other direction from place `from` on that end behind the anchor's bar.
 fn anchor_hit(
-    bars: &[[u16; 8]; 256],
+    bars: &[[u16; 6]; 256],
     prices: &[[f64; 3]; 256],
     side: Side,
     bar: u16,
@@ -147,7 +147,7 @@ fn anchor_hit(
 
 // The marks of the anchors of a side behind the first `found`, which are of zones; how many there are then.
 fn anchor_marks(
-    bars: &[[u16; 8]; 256],
+    bars: &[[u16; 6]; 256],
     prices: &[[f64; 3]; 256],
     side: Side,
     highs: &[f64],
@@ -190,7 +190,7 @@ pub struct Thirds {
 
 // The third marks of a chart by its tables and the scans of its zones: those of the zones, then those of the anchors.
 pub fn thirds_of(
-    bars: &[[u16; 8]; 256],
+    bars: &[[u16; 6]; 256],
     prices: &[[f64; 3]; 256],
     sups: &[[u16; 5]; 256],
     scans: &[[u32; 4]; 256],

@@ -2,11 +2,15 @@
 use Prim.Native.Nat.{ℕ, _+_, _≤_, _<_}
 use native.Mathlib.Omega.{arith}
 use native.Mathlib.Numerals.{add-one}
-use mathlib.Core.Path.{_≡_, ap, _∙_}
+use mathlib.Core.Path.{_≡_, refl, sym, ap, subst, _∙_}
+use mathlib.Core.Bool.{Bool, true, false, cond, _&&_, and-false, false≢true}
 use mathlib.Core.List.{List, [], _∷_, map, map-map}
 use lib.ListN.{length, take, getD, set}
 use lib.Seq.{take-suc, length-take-le}
-use lib.Ieee.{Float}
+use lib.Dec.{leb, ltb}
+use lib.Ieee.{Float, nan, inf, fin, below, lt}
+use borrow.Author.Tests.{le-ltb, ltb-true, not-true}
+use Rattle.price.specs.Price.{lower, higher}
 use Rattle.chart.specs.declared.Stroke.{Stroke}
 use Rattle.chart.specs.declared.Triple.{Triple}
 use Rattle.chart.specs.declared.Span.{Span}
@@ -16,29 +20,86 @@ use Rattle.chart.specs.declared.EndPoint.{EndPoint}
 use Rattle.chart.specs.declared.Chart.{Chart}
 use Rattle.chart.specs.Table.{pointOf}
 use Rattle.rules.specs.Records.{Levels, levelsOf}
-use Rattle.rules.specs.Ranges.{rangeOf, lastStroke}
+use Rattle.rules.specs.Ranges.{spanned, rangeOf, lastStroke}
 use Rattle.laws.proofs.Lists.{map-append}
+use Rattle.levels.specs.Read.{heldIf, strokeIf, rangeFrom}
 use Rattle.levels.proofs.Read.{no-triple}
 use Rattle.tables.specs.Rows.{Wide, rowsIn}
-use Rattle.tables.specs.Tables.{Big, bigOf, rangeIn, pointIn, bigIn, Bigs, Ranged, rangedIn, rangedOf, Members, pointIf, PutsBig}
+use Rattle.tables.specs.Tables.{Big, bigOf, rangeIn, EndsAt, pointIn, bigIn, Bigs, Ranged, rangedIn, rangedOf, Members, pointIf, PutsBig}
 use Rattle.tables.proofs.Rows.{puts, rows-map, row-is}
 
 -- ---- what is put
 
-module _ (k way there : ℕ) (range : Range) (e : Stroke) (bars : List (List ℕ)) (prices : List (List Float)) (h : k < 256) (wide : Wide bars prices) where
+module _ (k way there : ℕ) (range : Range) (e : Stroke) (bars : List (List ℕ)) (prices : List (List Float)) (h : k < 256) (w : Wide bars prices) where
   pub puts-missing :
-      (x y v w : ℕ) (low high : Float) → range ≡ Missing
+      (x y : ℕ) (low high : Float) → range ≡ Missing
       → PutsBig k way range (pointIf there e) bars prices
-      (set bars k (way ∷ 0 ∷ x ∷ y ∷ there ∷ e .«end_bar» ∷ v ∷ w ∷ [])) (set prices k (low ∷ high ∷ e .«end_price» ∷ []))
+      (set bars k (way ∷ 0 ∷ x ∷ y ∷ there ∷ e .«end_bar» ∷ [])) (set prices k (low ∷ high ∷ e .«end_price» ∷ []))
   unfolding bigIn rangeIn pointIn pointIf
-  puts-missing x y v w low high m = puts bigIn k _ bars prices _ _ h wide (rw m)
+  puts-missing x y low high m = puts bigIn k _ bars prices _ _ h w (rw m)
 
   pub puts-found :
-      (s : Span) → range ≡ Found s
+      (s : Span) → range ≡ Found s → EndsAt range (e .«end_price»)
       → PutsBig k way range (pointIf there e) bars prices
-      (set bars k (way ∷ 1 ∷ s .«start_bar» ∷ s .«end_bar» ∷ there ∷ e .«end_bar» ∷ s .«low_bar» ∷ s .«high_bar» ∷ [])) (set prices k (s .low ∷ s .high ∷ e .«end_price» ∷ []))
+      (set bars k (way ∷ 1 ∷ s .«start_bar» ∷ s .«end_bar» ∷ there ∷ e .«end_bar» ∷ [])) (set prices k (s .low ∷ s .high ∷ e .«end_price» ∷ []))
   unfolding bigIn rangeIn pointIn pointIf
-  puts-found s f = puts bigIn k _ bars prices _ _ h wide (rw f)
+  puts-found s f ends =
+      let by = subst (λ (r : Range). EndsAt r (e .«end_price»)) f ends in
+      puts bigIn k _ bars prices _ _ h w (rw (f, ← (by .0), ← (by .1)))
+
+-- ---- where a range ends
+
+-- of two floats, whatever they are, one at most is below the other
+below-once : (s t : Bool) (a b : ℕ) → below s a t b ≡ true → below t b s a ≡ false
+below-once false false a b h = le-ltb b a (omega (arith, ltb-true a b h))
+below-once false true a b h = absurd (false≢true h)
+below-once true false a b h = refl
+below-once true true a b h = le-ltb a b (omega (arith, ltb-true b a h))
+
+lt-once : (x y : Float) → lt x y ≡ true → lt y x ≡ false
+unfolding lt
+lt-once nan y h = absurd (false≢true h)
+lt-once (inf s) nan h = absurd (false≢true h)
+lt-once (inf true) (inf t) h = and-false t
+lt-once (inf false) (inf t) h = absurd (false≢true h)
+lt-once (inf s) (fin t n d) h = rw h
+lt-once (fin s m e) nan h = absurd (false≢true h)
+lt-once (fin s m e) (inf t) h = not-true t h
+lt-once (fin s m e) (fin t n d) h = below-once s t _ _ h
+
+lt-never : (x : Float) → lt x x ≡ false
+lt-never x = go (lt x x) refl
+  where
+    go : (t : Bool) → lt x x ≡ t → t ≡ false
+    go true e = sym e ∙ lt-once x x e
+    go false e = refl
+
+-- so the price e at the end, held against the higher and the lower of s and e, tells what s would
+beside-higher : (s e : Float) → lt e (higher s e) ≡ lt e s
+unfolding higher
+beside-higher s e = go (lt s e) refl
+  where
+    go : (t : Bool) → lt s e ≡ t → lt e (cond t e s) ≡ lt e s
+    go true h = lt-never e ∙ sym (lt-once s e h)
+    go false h = refl
+
+beside-lower : (s e : Float) → lt (lower s e) e ≡ lt s e
+unfolding lower
+beside-lower s e = go (lt e s) refl
+  where
+    go : (t : Bool) → lt e s ≡ t → lt (cond t e s) e ≡ lt s e
+    go true h = lt-never e ∙ sym (lt-once e s h)
+    go false h = refl
+
+pub range-ends : (m n : ℕ) (b a z : Triple) (s e : Stroke) → EndsAt (rangeFrom m n b a z s e) (e .«end_price»)
+unfolding rangeFrom strokeIf spanned
+range-ends m n b a z s e = go (leb (b .first) (b .last)) (ltb (b .first) m && ltb (a .first) n) (ltb (b .last) m && ltb (z .last) n)
+  where
+    go : (t u v : Bool) → EndsAt (cond t (spanned (heldIf u s) (heldIf v e)) Missing) (e .«end_price»)
+    go false u v = tt
+    go true false v = tt
+    go true true false = tt
+    go true true true = (rw (beside-higher (s .«start_price») (e .«end_price»)), rw (beside-lower (s .«start_price») (e .«end_price»)))
 
 -- ---- the bigs of a level
 

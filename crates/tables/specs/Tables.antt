@@ -6,7 +6,7 @@ use mathlib.Core.Option.{Option, none, some}
 use Prim.Native.Nat.{ℕ, _≤_}
 use lib.Dec.{eqb}
 use lib.ListN.{length, take, getD}
-use lib.Ieee.{Float, nan}
+use lib.Ieee.{Float, nan, lt}
 use Rattle.chart.specs.declared.Stroke.{Stroke}
 use Rattle.chart.specs.declared.Triple.{Triple}
 use Rattle.chart.specs.declared.Range.{Range}
@@ -33,8 +33,9 @@ pub record Big : Type 0 where
 unfoldable pub bigOf : Levels → Triple → Big
 bigOf c b = record { way = b .direction; range = rangeOf c b; point = pointOf (lastStroke c b) }
 
--- a row: the direction; whether the range is there, its start and end bar; whether the end point is there, its bar; the range's bars of low and
--- high. Prices: the range's low and high, the end point's
+-- a row: the direction; whether the range is there, its start and end bar; whether the end point is there, its bar. Prices: the range's
+-- low and high, the end point's, which is the price at which the range ends: its bar is that of the low where it is below the high, and that of
+-- the high where it is above the low
 unfoldable pub rangeIn : List ℕ → List Float → Range
 rangeIn row prices =
     cond (eqb (getD row 1 0) 0) Missing
@@ -44,9 +45,15 @@ rangeIn row prices =
       high = getD prices 1 nan;
       «start_bar» = getD row 2 0;
       «end_bar» = getD row 3 0;
-      «low_bar» = getD row 6 0;
-      «high_bar» = getD row 7 0;
+      «low_bar» = cond (lt (getD prices 2 nan) (getD prices 1 nan)) (getD row 3 0) (getD row 2 0);
+      «high_bar» = cond (lt (getD prices 0 nan) (getD prices 2 nan)) (getD row 3 0) (getD row 2 0);
     }))
+
+-- a range ends at price p: its bars of low and high are as such a row has them
+abbrev pub EndsAt : Range → Float → Type 0
+EndsAt Missing p = Unit {0}
+EndsAt (Found s) p =
+    (s .«low_bar» ≡ cond (lt p (s .high)) (s .«end_bar») (s .«start_bar»)) × (s .«high_bar» ≡ cond (lt (s .low) p) (s .«end_bar») (s .«start_bar»))
 
 unfoldable pub pointIn : List ℕ → List Float → EndPoint
 pointIn row prices = cond (eqb (getD row 4 0) 0) Nowhere (At (getD row 5 0) (getD prices 2 nan))

@@ -1,9 +1,10 @@
 // Tables that stand for the bigs, superiors and zones of a chart. A table is an array of rows of numbers or of prices, which can be lent,
 // where an array of records would be copied for each use. A row has, of
-// - a big: direction, 1 where the range is there or else 0, its start and end bar, 1 where the end point is there or else 0, and its bar,
-//   the range's bars of low and high; its prices: the range's low and high, and the end point's price
+// - a big: direction, 1 where the range is there or else 0, its start and end bar, 1 where the end point is there or else 0, and its bar;
+//   its prices: the range's low and high, and the end point's price, by which the bars of low and high are known again
 // - a superior: direction, first, last, 1 where it has an end bar or else 0, and that
-// - a zone: superior, start and end bar, first member, members, bars of dd and gg; its prices: zd, zg, dd, gg.
+// - a zone: superior, start and end bar, first member, members, bars of dd and gg, and a 0, so that a row has 16 bytes; its prices: zd, zg, dd,
+//   gg.
 use chart::Chart;
 use chart::EndPoint;
 use chart::Range;
@@ -22,7 +23,7 @@ ghost use Rattle.rules.specs.Records.{Levels, levelsOf};
 ghost use Rattle.rules.specs.Refusals.{badChart};
 ghost use Rattle.levels.specs.Read.{strokeIf};
 ghost use Rattle.tables.specs.Rows.{Wide, PutsRow};
-ghost use Rattle.tables.specs.Tables.{rangeIn, pointIn, pointIf, Bigs, PutsBig, SupRow, FillsSups, zoneIn};
+ghost use Rattle.tables.specs.Tables.{rangeIn, EndsAt, pointIn, pointIf, Bigs, PutsBig, SupRow, FillsSups, zoneIn};
 
 // How many rows of the tables of a chart count: bigs, superiors, zones.
 pub struct Counts {
@@ -47,31 +48,36 @@ pub fn at_most(n: usize, m: usize) -> usize
 
 // ---- bigs
 
-pub fn way_at(bars: &[[u16; 8]; 256], k: usize) -> u16
+pub fn way_at(bars: &[[u16; 6]; 256], k: usize) -> u16
     requires { ⌜ k < 256 ⌝ }
     ensures { λ r. ⌜ r ≡ getD (getD (now (bars .entry)) k []) 0 0 ⌝ }
 {
     bars[k][0]
 }
 
-pub fn range_at(bars: &[[u16; 8]; 256], prices: &[[f64; 3]; 256], k: usize) -> Range
+pub fn range_at(bars: &[[u16; 6]; 256], prices: &[[f64; 3]; 256], k: usize) -> Range
     requires { ⌜ k < 256 ⌝ }
     ensures { λ r. ⌜ r ≡ rangeIn (getD (now (bars .entry)) k []) (getD (now (prices .entry)) k []) ⌝ }
 {
     if bars[k][1] == 0 {
         return Range::Missing;
     }
+    let start_bar = bars[k][2];
+    let end_bar = bars[k][3];
+    let low = prices[k][0];
+    let high = prices[k][1];
+    let end_price = prices[k][2];
     Range::Found(Span {
-        low: prices[k][0],
-        high: prices[k][1],
-        start_bar: bars[k][2],
-        end_bar: bars[k][3],
-        low_bar: bars[k][6],
-        high_bar: bars[k][7],
+        low,
+        high,
+        start_bar,
+        end_bar,
+        low_bar: levels::bar_of(end_price < high, end_bar, start_bar),
+        high_bar: levels::bar_of(low < end_price, end_bar, start_bar),
     })
 }
 
-pub fn point_at(bars: &[[u16; 8]; 256], prices: &[[f64; 3]; 256], k: usize) -> EndPoint
+pub fn point_at(bars: &[[u16; 6]; 256], prices: &[[f64; 3]; 256], k: usize) -> EndPoint
     requires { ⌜ k < 256 ⌝ }
     ensures { λ r. ⌜ r ≡ pointIn (getD (now (bars .entry)) k []) (getD (now (prices .entry)) k []) ⌝ }
 {
@@ -95,35 +101,26 @@ fn has_end(b: Triple, z: Triple, segments: u16, strokes: u16) -> u16
     1
 }
 
-// A big into row k: its direction and range, and the end point at stroke e where `there` is not 0.
+// A big into row k: its direction and range, which ends where stroke e does, and the end point at e where `there` is not 0.
 fn put_big(
     k: usize,
     direction: u8,
     range: Range,
     there: u16,
     e: Stroke,
-    bars: &mut [[u16; 8]; 256],
+    bars: &mut [[u16; 6]; 256],
     prices: &mut [[f64; 3]; 256],
 )
-    requires { ⌜ (k < 256) × Wide (now bars) (now prices) ⌝ }
+    requires { ⌜ (k < 256) × Wide (now bars) (now prices) × EndsAt range (e .«end_price») ⌝ }
     ensures { λ _. ⌜ PutsBig k direction range (pointIf there e) (now (bars .entry)) (now (prices .entry)) (now (bars .exit)) (now (prices .exit)) ⌝ }
 {
     let way = direction as u16;
     let Range::Found(s) = range else {
-        bars[k] = [way, 0, 0, 0, there, e.end_bar, 0, 0];
+        bars[k] = [way, 0, 0, 0, there, e.end_bar];
         prices[k] = [0.0, 0.0, e.end_price];
         return;
     };
-    bars[k] = [
-        way,
-        1,
-        s.start_bar,
-        s.end_bar,
-        there,
-        e.end_bar,
-        s.low_bar,
-        s.high_bar,
-    ];
+    bars[k] = [way, 1, s.start_bar, s.end_bar, there, e.end_bar];
     prices[k] = [s.low, s.high, e.end_price];
 }
 
@@ -136,7 +133,7 @@ fn larger(a: u8, b: u8) -> u8
 
 // Refusal 21 of a loaded chart, and the tables of its bigs. All of it in one function, since each call on a chart copies it. Where the
 // largest of the directions and roll bytes and a plain test of the prices do not settle it, bad_chart decides.
-pub fn bigs_of(chart: Chart, bars: &mut [[u16; 8]; 256], prices: &mut [[f64; 3]; 256]) -> bool
+pub fn bigs_of(chart: Chart, bars: &mut [[u16; 6]; 256], prices: &mut [[f64; 3]; 256]) -> bool
     requires { ⌜ Wide (now bars) (now prices) ⌝ }
     ensures { λ r. ⌜ r ≡ badChart chart ⌝ }
     ensures { λ r. ⌜ (r ≡ false → Bigs (levelsOf chart) (chart .«big_count») (now (bars .exit)) (now (prices .exit))) ⌝ }
@@ -194,7 +191,7 @@ pub fn bigs_of(chart: Chart, bars: &mut [[u16; 8]; 256], prices: &mut [[f64; 3];
 // ---- superiors
 
 // The row of a superior over m bigs: where first ≤ last and last is a big, it ends where that big does, if it has an end point.
-fn superior_row(s: Triple, bars: &[[u16; 8]; 256], m: usize) -> [u16; 5]
+fn superior_row(s: Triple, bars: &[[u16; 6]; 256], m: usize) -> [u16; 5]
     requires { ⌜ m ≤ 256 ⌝ }
     ensures { λ r. ⌜ SupRow s m (now (bars .entry)) r ⌝ }
 {
@@ -213,7 +210,7 @@ fn superior_row(s: Triple, bars: &[[u16; 8]; 256], m: usize) -> [u16; 5]
 pub fn superiors_of(
     superiors: [Triple; 256],
     n: usize,
-    bars: &[[u16; 8]; 256],
+    bars: &[[u16; 6]; 256],
     m: usize,
     sups: &mut [[u16; 5]; 256],
 )
@@ -234,7 +231,7 @@ pub fn superiors_of(
 pub fn put_zone(
     zone: Zone,
     at: usize,
-    zone_bars: &mut [[u16; 7]; 256],
+    zone_bars: &mut [[u16; 8]; 256],
     zone_prices: &mut [[f64; 4]; 256],
 )
     requires { ⌜ (at < 256) × Wide (now «zone_bars») (now «zone_prices») ⌝ }
@@ -248,11 +245,12 @@ pub fn put_zone(
         zone.members,
         zone.dd_bar,
         zone.gg_bar,
+        0,
     ];
     zone_prices[at] = [zone.zd, zone.zg, zone.dd, zone.gg];
 }
 
-pub fn zone_at(zone_bars: &[[u16; 7]; 256], zone_prices: &[[f64; 4]; 256], i: usize) -> Zone
+pub fn zone_at(zone_bars: &[[u16; 8]; 256], zone_prices: &[[f64; 4]; 256], i: usize) -> Zone
     requires { ⌜ i < 256 ⌝ }
     ensures { λ r. ⌜ r ≡ zoneIn (getD (now («zone_bars» .entry)) i []) (getD (now («zone_prices» .entry)) i []) ⌝ }
 {

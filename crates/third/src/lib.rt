@@ -93,10 +93,10 @@ pub fn bigseg_third_marks_all_zhongshu(chart: Chart, highs: &[f64], lows: &[f64]
     ensures { λ r. ⌜ rowsAnswer (r .number) (r .count) (r .rows) ≡ thirdCall chart (record { highs = now (highs .entry); lows = now (lows .entry) }) ⌝ }
 {
     let own = mark_hits::quotes_refusal(highs, lows);
-    let mut bars = [[0u16; 8]; 256];
+    let mut bars = [[0u16; 6]; 256];
     let mut prices = [[0.0; 3]; 256];
     let mut sups = [[0u16; 5]; 256];
-    let mut zb = [[0u16; 7]; 256];
+    let mut zb = [[0u16; 8]; 256];
     let mut zp = [[0.0; 4]; 256];
     let begun = zones::tables_of(
         chart,

@@ -73,7 +73,7 @@ fn own_number(strokes: [Stroke; 512], n: usize, highs: &[f64], lows: &[f64]) -> 
 fn rows_by(
     sups: &[[u16; 5]; 256],
     scans: &[[u32; 4]; 256],
-    bars: &[[u16; 8]; 256],
+    bars: &[[u16; 6]; 256],
     prices: &[[f64; 3]; 256],
     counts: Counts,
     highs: &[f64],
@@ -123,10 +123,10 @@ pub fn bigseg_3n_marks_all_zhongshu(chart: Chart, highs: &[f64], lows: &[f64]) -
 {
     let strokes = chart.strokes;
     let own = own_number(strokes, chart.stroke_count as usize, highs, lows);
-    let mut bars = [[0u16; 8]; 256];
+    let mut bars = [[0u16; 6]; 256];
     let mut prices = [[0.0; 3]; 256];
     let mut sups = [[0u16; 5]; 256];
-    let mut zb = [[0u16; 7]; 256];
+    let mut zb = [[0u16; 8]; 256];
     let mut zp = [[0.0; 4]; 256];
     let begun = zones::tables_of(
         chart,

@@ -123,10 +123,10 @@ fn take_member(run: Zone, begun: bool, h: u16, index: u16, span: Span) -> Taken
 fn owner_zones(
     h: u16,
     row: [u16; 5],
-    bars: &[[u16; 8]; 256],
+    bars: &[[u16; 6]; 256],
     prices: &[[f64; 3]; 256],
     k: usize,
-    zb: &mut [[u16; 7]; 256],
+    zb: &mut [[u16; 8]; 256],
     zp: &mut [[f64; 4]; 256],
 ) -> usize
     requires { ⌜ (k ≤ 256) × (ownerIn row .last < 256) × Wide (now zb) (now zp) ⌝ }
@@ -175,10 +175,10 @@ fn owner_zones(
 pub fn overlap(
     sups: &[[u16; 5]; 256],
     n: usize,
-    bars: &[[u16; 8]; 256],
+    bars: &[[u16; 6]; 256],
     prices: &[[f64; 3]; 256],
     m: usize,
-    zb: &mut [[u16; 7]; 256],
+    zb: &mut [[u16; 8]; 256],
     zp: &mut [[f64; 4]; 256],
 ) -> usize
     requires { ⌜ (n ≤ 256) × (m ≤ 256) × Wide (now zb) (now zp) ⌝ }
@@ -228,10 +228,10 @@ fn no_tables(number: u8) -> Begun
 pub fn tables_of(
     chart: Chart,
     own: u8,
-    bars: &mut [[u16; 8]; 256],
+    bars: &mut [[u16; 6]; 256],
     prices: &mut [[f64; 3]; 256],
     sups: &mut [[u16; 5]; 256],
-    zb: &mut [[u16; 7]; 256],
+    zb: &mut [[u16; 8]; 256],
     zp: &mut [[f64; 4]; 256],
 ) -> Begun
     requires { ⌜ Wide (now bars) (now prices) × Wide (now zb) (now zp) × (length (now sups) ≡ 256) ⌝ }
@@ -287,7 +287,7 @@ fn refusal(number: u8) -> ZoneRows
 }
 
 // The first n rows of the tables as the answer of a call.
-fn rows_of(n: usize, zb: &[[u16; 7]; 256], zp: &[[f64; 4]; 256]) -> ZoneRows
+fn rows_of(n: usize, zb: &[[u16; 8]; 256], zp: &[[f64; 4]; 256]) -> ZoneRows
     requires { ⌜ (n ≤ 256) × Wide (now zb) (now zp) ⌝ }
     ensures { λ r. ⌜ rowsAnswer (r .number) (r .count) (r .rows) ≡ given (zonesIn n (now (zb .entry)) (now (zp .entry))) ⌝ }
 {
@@ -308,10 +308,10 @@ fn rows_of(n: usize, zb: &[[u16; 7]; 256], zp: &[[f64; 4]; 256]) -> ZoneRows
 pub fn detect_bigseg_zhongshus_by_overlap(chart: Chart) -> ZoneRows
     ensures { λ r. ⌜ rowsAnswer (r .number) (r .count) (r .rows) ≡ zonesCall chart ⌝ }
 {
-    let mut bars = [[0u16; 8]; 256];
+    let mut bars = [[0u16; 6]; 256];
     let mut prices = [[0.0; 3]; 256];
     let mut sups = [[0u16; 5]; 256];
-    let mut zb = [[0u16; 7]; 256];
+    let mut zb = [[0u16; 8]; 256];
     let mut zp = [[0.0; 4]; 256];
     let begun = tables_of(
         chart,
