@@ -71,14 +71,8 @@ def compared(a, b, m, n):
     buffers = [f + b"\xff" * (size - len(f)) for f, size in zip(files, (m, n))]
     return b"NUMBER %d\nEQUAL %d\n" % (number, number == 0 and a.parts() == b.parts()) + b"".join(b"BYTES %d\n" % len(f) + f for f in buffers)
 
-# what `report` prints, in its order: the sections that the reference has, as oracle/main.rs names them, and the model's
+# what `report` prints, in its order, as oracle/main.rs names it
 SECTIONS = ["passed", "ranges", "zones", "third", "threen", "labels", "classes", "firsts"]
-REPORT = SECTIONS + ["lower"]
-
-def one_up(c):
-    """a chart whose overlap zones are the lower zones of c: each segment is a big over that segment alone, with first > last where the segment has it, and
-    each big a superior"""
-    return Chart(c.strokes, c.segments, [(d, k + (first > last), k) for k, (d, first, last) in enumerate(c.segments)], c.bigs)
 
 def turns(points, up=True):
     """strokes from turn (bar, price) to turn"""
@@ -355,85 +349,6 @@ def tied_zones():
     pairs = [span for i in range(16) for span in ((99 - 6 * i, 98 - 6 * i, 3 * i + 2, 3 * i), (97 - 6 * i, 95 - 6 * i, 3 * i + 2, 3 * i))]
     return [run_of(*pairs, superiors=[(1, 0, 31)] * 15 + more) for more in ([(1, 0, 29)], [(1, 0, 31)], [(1, 0, 31), (1, 5, 5)])]
 
-# ---- lower zones (02, request 13)
-
-def one_down(c):
-    """a chart whose lower zones are the overlap zones of c, whose bigs are of one segment or have first > last: its segments are those of the bigs, and its
-    bigs the superiors"""
-    def segment(d, first, last):
-        a, e = c.segments[last][1:]
-        return (d, a, e) if first <= last else (d, e + 1, a)
-    return Chart(c.strokes, [segment(*b) for b in c.bigs], c.superiors)
-
-def over(bigs, segments={}, points=K_TURNS, superiors=()):
-    """strokes from turn to turn, each a segment but those that are other triples, under these bigs"""
-    s = turns(points)
-    return Chart(s, [segments.get(k, t) for k, t in enumerate(one_each(s))], bigs, superiors)
-
-def grouped(segments, bigs, superiors=()):
-    """K's strokes under these segments"""
-    return Chart(turns(K_TURNS), segments, bigs, superiors)
-
-def shared(n, bigs, superiors=(), strokes=2):
-    """n segments, all down, of two strokes in turn whose ranges are apart: each is a run of one under a big up; of one stroke: all are one run"""
-    s = [(0, 0, 2, 5.0, 1.0), (0, 4, 6, 15.0, 11.0)]
-    return Chart(s, [(0, k % strokes, k % strokes) for k in range(n)], bigs, superiors)
-
-# K's turns that go on inside its zone [16, 20]: opposing [17, 18] and [18.5, 19.5], and [20.5, 25] above it
-INSIDE = K_TURNS[:5] + [(25, 18), (29, 17), (33, 19.5), (38, 18.5), (40, 25), (44, 20.5), (50, 30)]
-
-# K's first five strokes
-FIVE = K_TURNS[:6]
-
-LOWERS = [
-    over([(1, 0, 4)]),                                                      # K: bars 5 to 18, zd 16, zg 20, dd 14, gg 24, from segment 1 on two
-    over([(0, 0, 7)]),                                                      # the same under a big down: runs of three and of one
-    over([(1, 0, 1)]),                                                      # a run of one
-    over([(1, 3, 3), (0, 3, 3)]),                                           # a big of one segment: opposing, or of its direction
-    over([(1, 1, 5)]),                                                      # the first segment is opposing
-    over([(1, 0, 3), (0, 4, 7)]),                                           # two bigs that share nothing
-    over([(1, 0, 1), (1, 2, 3)]),                                           # what would join stands under two bigs: two zones
-    over([(1, 0, 4), (1, 0, 4), (0, 2, 6), (1, 3, 7)]),                     # bigs that share segments
-    over([(1, 0, 8)]),                                                      # a big whose last is one behind the segments is skipped
-    over([(1, 0, 65535)]),                                                  # or far behind
-    over([(1, 8, 8), (1, 0, 8), (1, 65535, 65535), (1, 0, 4), (1, 2, 9)]),  # all but one of five
-    over([(1, 4, 0), (0, 3, 2), (1, 65535, 4), (1, 0, 7)]),                 # first > last: no segment
-    over([(1, 0, 4)], points=K_TURNS[:1]),                                  # no segment at all
-    over([(1, 0, 4)], points=FIVE, superiors=[(0, 0, 0)]),                  # the superior is down: the big's own direction counts
-    over([(0, 0, 4)], superiors=[(1, 0, 0), (0, 0, 0)]),                    # upside down
-    over([(1, 0, 3), (0, 4, 7)], superiors=[(1, 0, 1)]),                    # both bigs of one superior, up and down
-    over([(1, 0, 2), (1, 3, 5)], superiors=[(0, 0, 1)]),                    # a zone of bigs and zones of segments
-    over([(1, 0, 4)], points=[(0, 10), (5, 20), (9, 14), (14, 24), (18, 20), (25, 30)]),            # [14, 20] and [20, 24]: a touch founds none
-    over([(1, 0, 6)], points=K_TURNS[:5] + [(25, 27), (29, 20), (33, 35)]),                         # a touch of zg extends
-    over([(1, 0, 5)], points=[(0, 10), (5, 20), (9, 14), (14, 24), (18, 16), (22, 17), (25, 12)]),  # a third member [12, 17]
-    over([(1, 0, 6)], {4: (0, 4, 4), 5: (1, 5, 5)}, K_TURNS[:5] + [(25, 15.5), (29, 17), (33, 35)]),  # [15.5, 16]: a touch of zd extends
-    over([(1, 0, 10)], points=INSIDE),                                      # zd and zg are settled by two members; four members and one
-    over([(1, 0, 4)], {2: (0, 3, 2)}, FIVE),                                # a segment with first > last between two that join is passed over
-    over([(1, 0, 4)], {2: (0, 2, 5)}, FIVE),                                # or one whose last is no stroke
-    over([(1, 0, 4)], {2: (0, 65535, 65535)}, FIVE),                        # or whose strokes are none
-    over([(1, 0, 4)], {2: (0, 5, 2)}, FIVE),                                # or whose first is none
-    over([(1, 0, 4)], {1: (0, 2, 1)}, FIVE),                                # before the run
-    over([(1, 0, 4)], {3: (0, 3, 65535)}, FIVE),                            # behind it
-    over([(1, 0, 4)], {1: (0, 1, 5), 3: (0, 4, 3)}, FIVE),                  # all are missing: no zone
-    over([(1, 0, 4)], {0: (1, 5, 5), 2: (1, 3, 2), 4: (1, 4, 5)}, FIVE),    # those of the big's direction need no range
-    over([(1, 0, 4)], {0: (0, 0, 0), 1: (1, 1, 1)}, FIVE),                  # the segment's byte counts and not its stroke's
-    over([(1, 0, 4)], {2: (0, 3, 3), 3: (0, 1, 1)}, FIVE),                  # segments in no order: by index
-    over([(1, 0, 4)], {2: (0, 1, 1)}, FIVE),                                # segments that share a stroke
-    grouped([(1, 0, 0), (0, 1, 3), (1, 4, 4), (0, 5, 7)], [(1, 0, 3)]),     # from the first stroke's start to the last one's end: [16, 20], [19, 30]
-    grouped([(1, 0, 0), (0, 1, 1), (1, 2, 2), (0, 3, 5)], [(1, 0, 3)]),     # [14, 20] and [24, 26]: the first stroke alone would join
-    grouped([(1, 0, 0), (0, 1, 5), (1, 6, 6), (0, 7, 7)], [(1, 0, 3)]),     # [20, 26] with a lower price inside
-    grouped([(1, 0, 2), (0, 3, 3), (1, 4, 6), (0, 7, 7)], [(1, 0, 1), (0, 2, 3)], [(1, 0, 1)]),
-    grouped([(1, 0, 0), (0, 1, 1), (1, 2, 2), (0, 3, 3), (1, 4, 4)], [(1, 0, 0), (0, 1, 3), (1, 4, 4)], [(1, 0, 2)]),  # inside a superior
-]
-
-def lower_counts():
-    """255, 256 and 257 lower zones of 16 or 17 bigs, the last also with a zone; 256 of one big; 65,536; one of 256 members; 256 zones and 257, each with 16
-    lower zones"""
-    bigs = [[(1, 0, 15)] * 15 + more for more in ([(1, 0, 14)], [(1, 1, 15), (1, 0, 0)], [(1, 0, 15), (1, 3, 3)])]
-    made = [shared(16, some) for some in bigs] + [shared(16, bigs[2], [(0, 0, 16)])]
-    made += [shared(256, [(1, 0, 255)]), shared(256, [(1, 0, 255)] * 256), shared(256, [(1, 0, 255)], strokes=1)]
-    return made + [shared(16, [(1, k, k) for k in range(16)], [(0, 0, 15)] * 16 + more) for more in ([], [(0, 3, 3)])]
-
 def outside():
     """K with a bar too few; K with a stroke that nothing names and that ends behind the bars: 3+N marks are refused with 9"""
     few, unnamed = chart_k(), chart_k()
@@ -676,43 +591,6 @@ def crowded(r):
     c = Chart(s, t, t, superiors)
     return mirrored(c) if r.random() < 0.5 else c
 
-def lower_like(r):
-    """bigs of 2 to 9 segments, these of one stroke to four, most of them up and down in turn, with prices of a few, level or rising; at times bars in no order,
-    segments turned or without a range, bigs that share segments, end behind them or have first > last"""
-    grid, rise, sizes = r.choice([2, 3, 5, 12]), r.choice([0, 0, 0.5, 1, 3]), r.choice([[1], [1, 1, 2, 3], [2, 3, 4]])
-    missing, turned = r.choice([0, 0, 0.1, 0.25]), r.choice([0, 0.1, 0.4])
-    strokes, segments, bigs, level, p = [], [], [], 0.0, 0.0
-    for _ in range(r.randrange(1, 7)):
-        d, first = r.randrange(2), len(segments)
-        for k in range(r.randrange(2, 10)):
-            start = len(strokes)
-            for _ in range(r.choice(sizes)):
-                q = level + r.randrange(grid + 1)
-                strokes.append((int(p < q), 0, 0, p, q))
-                p = q if r.random() < 0.8 else level + r.randrange(grid + 1)
-            segments.append(((d + k) % 2 if r.random() >= turned else r.randrange(2), start, len(strokes) - 1))
-            level += rise
-        bigs.append((d, first, len(segments) - 1))
-    n, m = len(strokes), len(segments)
-    bars = [(2 * k, 2 * k + 2) for k in range(n)] if r.random() < 0.5 else tied_bars(r, n)
-    lacking = lambda d, a, e: r.choice([(d, e + 1, a), (d, a, n), (d, a, 65535), (d, n, e), (d, 65535, 65535)])
-    segments = [lacking(*t) if r.random() < missing else t for t in segments]
-    wider = r.choice([0, 0, 0, 3])
-    bigs = [(d, max(0, a - r.randrange(wider + 1)), min(m - 1, e + r.randrange(wider + 1))) for d, a, e in bigs]
-    for k in r.sample(range(len(bigs)), min(len(bigs), r.choice([0, 0, 1, 2]))):
-        d, a, e = bigs[k]
-        bigs[k] = r.choice([(d, a, m), (d, a, 65535), (d, e, a), (d, e + 1, e), (d, 65535, e), (d, m, m)])
-    return Chart([(d, *b, p, q) for (d, _, _, p, q), b in zip(strokes, bars)], segments, bigs, superiors_over(r, len(bigs)))
-
-def crowded_lower(r):
-    """as many lower zones as there may be, about, of one member each or two: a ladder under bigs that have all of it, the last of them a part"""
-    n, count, size = r.randrange(4, 65), r.choice([255, 256, 257, r.randrange(250, 301)]), r.choice([1, 1, 2])
-    strokes, _ = ladder(n)
-    segments, last = [(0, k, k) for k in range(n) for _ in range(size)], size * n - 1
-    bigs = [(1, 0, last)] * (count // n) + [(1, size * (n - count % n), last)] * (count % n > 0)
-    c = Chart(strokes, segments, bigs, superiors_over(r, len(bigs)))
-    return mirrored(c) if r.random() < 0.5 else c
-
 def superiors_over(r, n):
     """superiors of n bigs, side by side or overlapping, of directions in turn or not; at times some anywhere behind them, and one with odd indices"""
     out, i, d = [], r.choice([0, 0, 1, 1, 2, 3, 4]), r.randrange(2)
@@ -749,21 +627,7 @@ def tied(seed, i):
     c.bars = lent(r, c)
     return c
 
-def lower(seed, i):
-    """a chart made for lower zones, one in ten of which has 250 to 300, with its bars"""
-    r = random.Random(f"lower {seed} {i}")
-    c = (crowded_lower if r.random() < 0.1 else lower_like)(r)
-    c.bars = lent(r, c)
-    return c
-
 def generated(seed, i):
-    """one in ten is made for lower zones"""
-    if random.Random(f"lower kinds {seed} {i}").random() < 0.1:
-        return rolled(random.Random(f"rolls {seed} {i}"), lower(seed, i), 0.1)
-    return earlier(seed, i)
-
-def earlier(seed, i):
-    """a chart that is not made for lower zones"""
     if random.Random(f"kinds {seed} {i}").random() < 0.05:
         return rolled(random.Random(f"rolls {seed} {i}"), tied(seed, i), 0.1)
     r = random.Random(f"{seed} {i}")
@@ -774,12 +638,6 @@ def earlier(seed, i):
 def rolled(r, c, share):
     """the same chart with a share of its strokes rolled; nothing else of it is drawn by these numbers"""
     return with_rolls(c, *[k for k in range(len(c.strokes)) if r.random() < share])
-
-def for_lower():
-    """charts made for lower zones, as they are and upside down, those with bars of dd and gg too; counts; generated ones"""
-    made = LOWERS + [one_down(c) for c in EXTREMES]
-    few = [c for c in (lower(7, i) for i in range(60)) if len(c.pack()) + 20 * len(c.bars) < 1600]
-    return made + [mirrored(c) for c in made] + lower_counts() + [one_down(c) for c in tied_zones()] + few[:10]
 
 def special():
     missing = simple(K_TURNS, [(1, 0, 7)])
@@ -974,7 +832,7 @@ def comparisons(r):
     differ = bits + [(most, tail), (Chart(), base), (base, Chart(base.strokes[::-1], *base.parts()[1:])), (base, Chart(*base.parts()[:3]))]
     differ += [(Chart(segments=[t]), Chart(bigs=[t])), (Chart(bigs=[t]), Chart(superiors=[t])), (Chart(segments=[t]), Chart(segments=[t] * 2))]
     differ += [(k, with_rolls(k, i)) for i in (0, 3, 7)] + [(with_rolls(k, 2), with_rolls(k, 3)), (with_rolls(k, 1, 2), with_rolls(k, 1)), (k, jumping_k())]
-    equal = [(c, c) for c in [Chart(), base, k, with_rolls(k, 1, 4, 5), *(earlier(4, i) for i in range(12))]]
+    equal = [(c, c) for c in [Chart(), base, k, with_rolls(k, 1, 4, 5), *(generated(4, i) for i in range(12))]]
     exact = [(a, b, len(a.pack()), len(b.pack())) for a, b in equal + differ + [(b, a) for a, b in bits]]
     wider = [(a, b, m + r.randrange(9), n + r.randrange(9)) for a, b, m, n in exact[:40]]
     short = [(a, b, m - x, n - y) for a, b, m, n in exact[:20] for x, y in ((1, 0), (0, 1), (1, 1), (m, 0)) if x <= m and y <= n and x + y]

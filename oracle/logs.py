@@ -224,6 +224,8 @@ def for_derive():
 # ---- zones
 
 K_ZONE = "zone 0 5 18 4030000000000000 4034000000000000 402C000000000000 4038000000000000 1 2 9 14"
+# K's zone, then opposing [17, 18] and [18.5, 19.5] inside it, and [20.5, 25] above it
+INSIDE = charts.K_TURNS[:5] + [(25, 18), (29, 17), (33, 19.5), (38, 18.5), (40, 25), (44, 20.5), (50, 30)]
 
 # P6: two zones at a touch; P7: a touch extends; zd and zg are settled by two members
 TWO = """zone 0 5 9 402C000000000000 4034000000000000 402C000000000000 4034000000000000 1 1 9 5
@@ -238,11 +240,10 @@ def for_zones():
     out = [made("chart K", k, "0\ncount 25"), made("chart K's zone", k, K_ZONE), made("lengthened to K's zone", bigs + [sup(1, 0, 1), ('L', 2), ('L', 3)], K_ZONE)]
     for d, i, n, more in itertools.product((0, 1), (0, 1), (0, 1, 3), (1, 2, 3)):
         out.append(answered(f"superior {d} from {i} to {i + n}, lengthened by {more}", [(bigs + [sup(d, i, i + n), ('L', i + n + more)], 0)]))
-    inside = charts.simple(charts.INSIDE, [(1, 0, 10)])
-    for name, c in (("a touch founds none", charts.touching()), ("a touch extends", charts.three_members()), ("no narrowing", inside)):
+    for name, c in (("a touch founds none", charts.touching()), ("a touch extends", charts.three_members()), ("no narrowing", charts.simple(INSIDE, [(1, 0, 10)]))):
         both = [c, charts.mirrored(c)]
         out += [answered(name + turned, [(calls_of(c), 0)]) for turned, c in zip(("", ", upside down"), both)]
-    out += [made(f"zones {want}", calls_of(c), want) for c, want in ((charts.touching(), TWO), (charts.three_members(), THREE), (inside, FOUR))]
+    out += [made(f"zones {want}", calls_of(c), want) for c, want in ((charts.touching(), TWO), (charts.three_members(), THREE), (charts.simple(INSIDE, [(1, 0, 10)]), FOUR))]
     out += [answered(f"withdrawn, added again as {t}", [(k + [('W', 3), sup(*t)], 0)]) for t in ((1, 0, 4), (0, 0, 4), (1, 3, 7), (0, 2, 2))]
     out += [answered("withdrawn", [(k + [('W', 3)], 0)]), answered("two superiors", [(k + [sup(0, 5, 7)], 0)])]
     return out + [answered("four superiors", [(bigs + [sup(d, 2 * i, 2 * i + 1) for i, d in enumerate((1, 0, 0, 1))], 0)])]
@@ -453,59 +454,6 @@ def for_readings():
     both = [(name + turned, d) for name, c in READINGS.items() for turned, d in (("", c), (", upside down", charts.mirrored(c)))]
     return [made(name, calls_of(c) + bars_of(c), "0\n" * len(calls_of(c)) + f"count {len(calls_of(c))}") for name, c in both]
 
-# ---- lower zones (02, request 13): what stands at the end of the output
-
-K_LOWER = "lower 0 5 18 4030000000000000 4034000000000000 402C000000000000 4038000000000000 1 2 9 14"
-# of K's segments 0 to 4 under a big down; 4 to 7 under a second big that is down; 5 alone; 1 alone
-K_UPS = "lower 0 0 25 402C000000000000 4034000000000000 4024000000000000 403E000000000000 0 3 0 25"
-SECOND = "lower 1 18 33 403A000000000000 403E000000000000 4030000000000000 4041800000000000 4 2 18 33"
-FIFTH = "lower 0 25 29 403A000000000000 403E000000000000 403A000000000000 403E000000000000 5 1 29 25"
-ONE = "lower 0 5 9 402C000000000000 4034000000000000 402C000000000000 4034000000000000 1 1 9 5"
-# a superior down over a big of the segments 0 to 4; K's big 7 turned
-BIG_ZONE = "zone 0 0 25 4024000000000000 403E000000000000 4024000000000000 403E000000000000 0 1 0 25"
-LAST_LOWER = "lower 7 33 38 4033000000000000 4041800000000000 4033000000000000 4041800000000000 7 1 38 33"
-# segments of K's strokes 0, 1 to 3, 4, 5 to 7: the ranges [16, 20] and [19, 30]
-WIDER = [(1, 0, 0), (0, 1, 3), (1, 4, 4), (0, 5, 7)]
-WIDER_ONE = "lower 0 5 18 4030000000000000 4034000000000000 4030000000000000 4034000000000000 1 1 18 5"
-WIDER_LOWER = "lower 0 5 38 4033000000000000 4034000000000000 4030000000000000 403E000000000000 1 2 18 25"
-# of LOWS: two members at dd; the same and a lower one
-LOW_TWICE = "lower 0 5 18 402C000000000000 4034000000000000 402C000000000000 4038000000000000 1 2 9 14"
-LOW_LOWER = "lower 0 5 29 402C000000000000 4034000000000000 4028000000000000 403E000000000000 1 3 29 25"
-
-def for_lower():
-    """bigs added, withdrawn, added again and derived, with calls between that leave lower zones as they are"""
-    base, big, sup = calls_of(charts.over([])), lambda *t: ('B', *t), lambda *t: ('U', *t)
-    one, both, free = base + [big(1, 0, 4)], base + [big(1, 0, 3), big(0, 4, 7)], "segment 0 7 7"
-    rows = [("K's", one, ["big 1 0 4", K_LOWER]), ("under a big down", base + [big(0, 0, 4)], ["big 0 0 4", K_UPS])]
-    rows += [("of one", base + [big(1, 0, 1)], ["big 1 0 1", ONE])]
-    rows += [("withdrawn", one + [('W', 2)], [free]), ("turned", one + [('W', 2), big(0, 0, 4)], ["big 0 0 4", K_UPS])]
-    rows += [("longer", base + [big(1, 0, 1), ('W', 2), big(1, 0, 4)], ["big 1 0 4", K_LOWER]), ("shorter", one + [('W', 2), big(1, 0, 2)], ["big 1 0 2", ONE])]
-    rows += [("two bigs", both, ["big 1 0 3", "big 0 4 7", K_LOWER, SECOND]), ("the second withdrawn", both + [('W', 2)], ["big 1 0 3", K_LOWER])]
-    rows += [("refused calls", one + [('W', 1), ('W', 4), big(1, 4, 5), big(1, 5, 8), ('D', 0), ('L', 0)], ["big 1 0 4", K_LOWER])]
-    rows += [("segments and strokes behind withdrawn", one + [('W', 1), ('W', 0)] * 3, ["big 1 0 4", K_LOWER])]
-    rows += [("strokes and segments behind added", base[:5] + base[8:13] + [big(1, 0, 4)] + base[5:8] + base[13:], ["big 1 0 4", K_LOWER])]
-    rows += [("under a superior down", one + [sup(0, 0, 0)], ["superior 0 0 0", BIG_ZONE, K_LOWER])]
-    rows += [("which is withdrawn", one + [sup(0, 0, 0), ('W', 3)], ["big 1 0 4", K_LOWER])]
-    rows += [("under a superior up that is lengthened", both + [sup(1, 0, 0), ('L', 1)], [K_LOWER, SECOND])]
-    rows += [("superiors derived", both + [('E', 1)], ["big 0 4 7", K_LOWER, SECOND])]
-    for byte, before in itertools.product((0, 1), ([], [big(0, 0, 7), ('W', 2)])):
-        rows.append((f"bigs derived, byte {byte}, {len(before)} calls before", base + before + [('D', byte)], ["big 1 0 6", K_LOWER, FIFTH]))
-    rows += [("derived and withdrawn", base + [('D', 0), ('W', 2)], [free])]
-    rows += [("derived, withdrawn, added", base + [('D', 1), ('W', 2), big(1, 0, 3)], ["big 1 0 3", K_LOWER])]
-    wider = calls_of(charts.grouped(WIDER, [(1, 0, 3)]))
-    rows += [("segments of three strokes", wider, ["big 1 0 3", WIDER_LOWER]), ("derived from them", wider[:-1] + [('D', 0)], ["big 1 0 2", WIDER_ONE])]
-    lows = calls_of(charts.over([], points=LOWS))
-    rows += [("two at dd", lows + [big(1, 0, 4)], ["big 1 0 4", LOW_TWICE]), ("and a lower one", lows + [big(1, 0, 6)], ["big 1 0 6", LOW_LOWER])]
-    k = charts.chart_k()
-    k.bigs[7] = (1, 7, 7)
-    rows += [("before the marks", calls_of(k) + bars_of(k), [K_ZONE, LAST_LOWER, K_THIRD, K_ORDER_0, K_ORDER_1])]
-    return [ending("lower zones, " + name, calls, *lines) for name, calls, lines in rows]
-
-def lower_readings():
-    """those of charts.LOWERS that a live chart can hold and that are not above, upside down; every call is accepted"""
-    some = [charts.mirrored(c) for c in charts.LOWERS[6:7] + charts.LOWERS[15:19] + charts.LOWERS[21:22] + charts.LOWERS[34:]]
-    return [made(f"lower zones of chart {k}", calls_of(c), "0\n" * len(calls_of(c)) + f"count {len(calls_of(c))}") for k, c in enumerate(some)]
-
 def small_log():
     """a call of each kind, and bars; a rolled stroke whose price does not meet, a zone and a third mark are left"""
     s = charts.turns([(0, 2), (1, 1), (2, 2), (3, 1)], False)
@@ -515,7 +463,7 @@ def small_log():
 
 def special():
     calls = for_strokes() + [t for letter in "GBU" for t in for_triples(letter)] + for_lengthen() + for_withdraw() + for_derive() + for_zones() + for_full()
-    return for_spelling() + for_length() + calls + for_extremes() + for_bars() + for_readings() + for_lower() + lower_readings()
+    return for_spelling() + for_length() + calls + for_extremes() + for_bars() + for_readings()
 
 # ---- generated logs
 
@@ -781,19 +729,6 @@ def marked(r):
         moved(g, len(g.calls) + r.randrange(1, 12))
     return g.calls
 
-def lowered(r):
-    """bigs of two segments to nine, added or derived, these of one stroke or several; then moves"""
-    g = Log(r, Style(r))
-    g.style.spans[1], g.style.spans[2] = r.choice([[0], [0], [0, 0, 2], [0, 1, 2, 3]]), r.choice([[1, 2, 3], [2, 4, 6], [1, 3, 5, 8]])
-    n = r.randrange(6, 40)
-    if r.random() < 0.3:
-        filled(g, [n, n])
-        g.call('D', r.randrange(2))
-    else:
-        filled(g, [n, n, r.choice([n, n, 1, 2]), r.choice([0, 1, n])])
-    moved(g, len(g.calls) + r.choice([0, 0, 3, 10, 30]))
-    return g.calls
-
 def bars_for(r, calls):
     """bars for the chart that calls leave, by charts.lent; seldom about 2,048; at times a price or two that are odd"""
     m = machine.Machine()
@@ -839,18 +774,8 @@ def with_bars(r, calls):
     calls = calls if how < 0.5 else marked(r)
     return packed(among(r, calls, bars_for(r, calls)))
 
-def lower(seed, i):
-    """a log made for lower zones, in half with bars"""
-    r = random.Random(f"lower log {seed} {i}")
-    calls = lowered(r)
-    return packed(among(r, calls, bars_for(r, calls)) if r.random() < 0.5 else calls)
-
 def generated(seed, i):
-    """one in eight is made for lower zones"""
-    return lower(seed, i) if random.Random(f"lower kinds {seed} {i}").random() < 0.125 else earlier(seed, i)
-
-def earlier(seed, i):
-    """a log that is not made for lower zones; about half of them have bars"""
+    """about half of the logs have bars"""
     log, r = generated_log(seed, i)
     b = random.Random(f"bars {seed} {i}")
     bars = b.random() < 0.5
@@ -860,8 +785,7 @@ def earlier(seed, i):
     return log
 
 def replay_corpus():
-    """the logs of crates/vectors: those made for a purpose, generated short ones, long ones, and short ones made for lower zones"""
-    short = [log for log in (earlier(7, i) for i in range(240)) if len(log) < 1000]
-    lowers = [log for log in (lower(7, i) for i in range(60)) if len(log) < 700]
+    """the logs of crates/vectors: those made for a purpose, generated short ones, and long ones"""
+    short = [log for log in (generated(7, i) for i in range(240)) if len(log) < 1000]
     more = [packed(f(random.Random(f"corpus {f.__name__} {i}"))) for f, n in ((long, 2), (full, 1)) for i in range(n)]
-    return list(dict.fromkeys([log for _, log, _ in special()] + short[:90] + more + lowers[:7]))
+    return list(dict.fromkeys([log for _, log, _ in special()] + short[:90] + more))

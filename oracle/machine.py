@@ -1,4 +1,4 @@
-"""Document 01's plain machine, fed with calls alone, and what the program `replay` must print of a log. Zones, lower zones, classes and marks are model.py's.
+"""Document 01's plain machine, fed with calls alone, and what the program `replay` must print of a log. Zones, classes and marks are model.py's.
 A call is a letter and its fields, in the order of the log: S add stroke (the roll byte last), G B U add segment, big, superior, L lengthen, W withdraw,
 D E derive bigs and superiors. Q is no call: its high and low are one more bar of the slices that the marks are asked with. An entry of a log is a call or a
 Q. A price is its 64 bits; comparisons are those of floats. SW holds the wrong readings that are on, as in model.py."""
@@ -101,7 +101,7 @@ class Machine:
     """strokes (d, start bar, end bar, start price, end price, roll), segments, bigs, superiors (d, first, last), and the count; beside them the bars
     (high, low) of the log, which no call sees"""
     def __init__(self):
-        self.levels, self.count, self.bars, self.kept, self.kept_lower, self.marked = [[], [], [], []], 0, [], None, None, None
+        self.levels, self.count, self.bars, self.kept, self.marked = [[], [], [], []], 0, [], None, None
 
     def chart(self):
         """model.py's chart, with prices as floats"""
@@ -114,10 +114,6 @@ class Machine:
     def zones(self):
         """the overlap rule applied afresh"""
         return model.zones(self.chart()) if self.kept is None else self.kept
-
-    def lower(self):
-        """the same of segments inside bigs (02, request 13). There are never more than 256: bigs of a live chart share no segment"""
-        return model.lower_zones(self.chart()) if self.kept_lower is None else self.kept_lower
 
     def classes(self, letter, byte):
         """what a derive appends: (direction, start, end)"""
@@ -145,7 +141,6 @@ class Machine:
             self.count = min(MOST, self.count + (not nothing))
         if number == 0:
             self.kept = self.zones() if SW and on('zones kept at ' + letter) else None
-            self.kept_lower = self.lower() if SW and on('lower zones kept at ' + letter) else None
             self.step(letter, *fields)
         if on('bars dropped at a call'): self.bars = []
         return number
@@ -213,10 +208,8 @@ def printed(answers, m):
     lines = [*map(str, answers), f'count {m.count}']
     lines += ['stroke %d %d %d %016X %016X %d' % s for s in m.levels[0]]
     lines += ['%s %d %d %d' % (name, *t) for name, level in zip(NAMES[1:], m.levels[1:]) for t in level]
-    zones, lower = (['%s %s' % (name, model.zone_row(z)) for z in zs] for name, zs in (('zone', m.zones()), ('lower', m.lower())))
-    parts = [lower, zones] if on('lower zones before zones') else [zones, lower]
-    parts.insert(0 if on('marks before zones') else 1 if on('marks before lower zones') else 2, mark_lines(m))
-    lines += sum(parts, [])
+    zones = ['zone ' + model.zone_row(z) for z in m.zones()]
+    lines += mark_lines(m) + zones if on('marks before zones') else zones + mark_lines(m)
     return ''.join(line + '\n' for line in lines).encode()
 
 def replayed(log):
@@ -242,8 +235,7 @@ def switches():
     prices = ['nan-a-price', 'infinity-a-price', 'minus-zero-a-price', 'zero-no-price', 'subnormal-no-price']
     others = each('L', 'same last taken', 'one behind taken') + each('W', 'under any record refused', 'held record taken')
     others += each('DE', 'byte 2 taken', 'on any level', 'byte as 0', 'byte as 1', 'of nothing not counted') + ['E from segments', 'refused counts']
-    whole = [what + ' kept at ' + letter for what in ('zones', 'lower zones') for letter in ORDER] + ['lower zones before zones', 'marks before lower zones']
-    whole += ['unknown letter passed over', 'cut call left out', 'offset of the cut']
+    whole = ['zones kept at ' + letter for letter in ORDER] + ['unknown letter passed over', 'cut call left out', 'offset of the cut']
     whole += ['behind 65,536 nothing read', 'any length taken', 'one byte more taken', 'one byte fewer taken']
     bars = ['Q low first', 'bars newest first', 'bars dropped at a call', 'Q counted', 'Q answered']
     bars += ['a Q more taken', 'a Q fewer taken', 'Q too many passed over', 'Q high any', 'Q low any']
@@ -253,6 +245,5 @@ def switches():
 
 # No log tells these apart. A new last at or below the present one is a big, so 4 and 5 of lengthen exclude each other; without a superior there is no
 # present last. A level that is empty holds no record. Prices that are equal have the same bits. Of the accepted calls only U, L, E and a withdrawal of
-# a superior change zones, only B, D and a withdrawal of a big lower zones: nothing names what the others append or drop
+# a superior change zones: nothing names what the others append or drop
 SILENT = ['L 5 before 4', 'L 4 before 7', 'W 6 before 7', 'W 6 before 2', 'S joined by bits'] + ['zones kept at ' + letter for letter in 'SGBD']
-SILENT += ['lower zones kept at ' + letter for letter in 'SGULE']

@@ -2,7 +2,7 @@
 switch changes an answer, the chart tells the two readings apart. The facts of crates/rules/proofs/Readings.antt and Borders.antt were found so.
 A chart: strokes (d, start bar, end bar, start price, end price, roll), segs, bigs, sups (d, first, last), highs, lows. Nothing here asks for the roll."""
 import inspect, re, struct
-from collections import Counter, namedtuple
+from collections import namedtuple
 import bars_file
 from bars_file import Refused
 Chart = namedtuple('Chart', 'strokes segs bigs sups highs lows')
@@ -124,98 +124,6 @@ def ties(c):
             if any(r[0] == r[1] == price and r[3] < bar for r in own): out.add('a level member whose end bar is smaller than the bar')
             if bar == 65535: out.add('a bar 65,535 of dd or gg')
             if bar > min(r[4 + k] for r in own): out.add('a smaller bar of a member with another price')
-    return out
-
-# ---- lower zones (02, request 13): of segments inside a big, written from 02's sentences without the functions above
-Lower = namedtuple('Lower', 'big start end zd zg dd gg first members dd_bar gg_bar')
-Span = namedtuple('Span', 'at low high start end low_bar high_bar')  # the range of the item at an index
-def span(at, points):
-    """from the first of some (price, bar) to the last; the start bar where both prices are equal"""
-    (p, start), (q, end) = points[0], points[-1]
-    if on('lower-level-end-bar') and p == q: return Span(at, p, q, start, end, end, end)
-    if on('lower-range-of-all-strokes'):
-        low, high = min(x for x, _ in points), max(x for x, _ in points)
-        return Span(at, low, high, start, end, *(min(bar for x, bar in points if x == price) for price in (low, high)))
-    return Span(at, min(p, q), max(p, q), start, end, start if p <= q else end, start if p >= q else end)
-def points(strokes): return [point for t in strokes for point in ((t[3], t[1]), (t[4], t[2]))]
-def segment_span(c, k):
-    """the range of segment k, or None where it is missing"""
-    _, first, last = c.segs[k]
-    if max(first, last) >= len(c.strokes): return None
-    if first > last: return span(k, points([c.strokes[first], c.strokes[last]])) if on('lower-range-any-order') else None
-    if on('lower-range-of-first-stroke'): last = first
-    if on('lower-range-of-last-stroke'): first = last
-    return span(k, points(c.strokes[first:last + 1]))
-def opposing(c, b):
-    """the ranges of big b's opposing segments, in order; None for a missing one"""
-    d, first, last = c.bigs[b]
-    if last >= len(c.segs):
-        if not on('lower-last-clipped'): return []
-        last = len(c.segs) - 1
-    inside = range(first, last + 1)
-    if on('lower-against-superior'): d = next((s[0] for s in c.sups if s[1] <= b <= s[2]), d)
-    if on('lower-against-first-segment') and inside: d = c.segs[first][0]
-    if on('lower-own-direction'): d = 1 - d
-    if on('lower-of-strokes'):
-        strokes = range(c.segs[first][1], min(c.segs[last][2] + 1, len(c.strokes))) if inside else []
-        return [span(k, points([c.strokes[k]])) for k in strokes if c.strokes[k][0] != d]
-    return [segment_span(c, k) for k in inside if c.segs[k][0] != d]
-def core(xs):
-    """zd and zg of a run: what its first two have in common, or the range of one alone"""
-    if not on('lower-narrowed'): xs = xs[:2]
-    return max(x.low for x in xs), min(x.high for x in xs)
-def joins(xs, x):
-    """whether an opposing segment joins a run"""
-    zd, zg = core([*xs, x] if len(xs) == 1 else xs)
-    if len(xs) == 1: return zd < zg or on('lower-touch-founds') and zd == zg
-    return (x.low < zg and x.high > zd) if on('lower-touch-apart') else (x.low <= zg and x.high >= zd)
-def least_bar(price, ms):
-    """the smallest bar among members (price, bar) with this price"""
-    bars = [bar for p, bar in ms if p == price or on('lower-least-of-all')]
-    return bars[0] if on('lower-tie-first') else bars[-1] if on('lower-tie-last') else min(bars)
-def lower_zone(c, b, xs):
-    wide = xs[:2] if on('lower-not-widened') else xs
-    dd, gg = min(x.low for x in wide), max(x.high for x in wide)
-    first = xs[0].at - (c.bigs[b][1] if on('lower-counted-in-big') else 0)
-    bars = least_bar(dd, [(x.low, x.low_bar) for x in xs]), least_bar(gg, [(x.high, x.high_bar) for x in xs])
-    return Lower(b, xs[0].start, xs[0].end if on('lower-end-not-moved') else xs[-1].end, *core(xs), dd, gg, first, len(xs), *bars)
-def lower_zones(c):
-    runs = []
-    for b in range(len(c.bigs)):
-        fresh = not (on('lower-runs-go-on') and runs)
-        for x in opposing(c, b):
-            if x is None:
-                fresh = fresh or on('lower-missing-ends-run')
-                continue
-            if not fresh and joins(runs[-1][1], x): runs[-1][1].append(x)
-            else: runs.append((b, [x]))
-            fresh = False
-    return [lower_zone(c, b, xs) for b, xs in runs]
-def lower_section(c):
-    zs = lower_zones(c)
-    counted = len(zs) + (len(zones(c)) if on('lower-11-of-both-levels') else 0)
-    if counted > 256 - on('lower-11-at-256') + on('lower-11-from-258'): return ['LOWER refused 11']
-    return section('LOWER', [*map(zone_row, zs)])
-def live_lower_switches():
-    """the switches that lower zones ask for, but those of 11, which no live chart meets"""
-    return asked(span, segment_span, opposing, core, joins, least_bar, lower_zone, lower_zones)
-def lower_switches(): return live_lower_switches() + asked(lower_section)
-
-def lower_shows(c):
-    """what a chart's lower zones show, and how many of each kind of run there are"""
-    zs, n, out = lower_zones(c), len(c.segs), Counter()
-    kept = [b for b, t in enumerate(c.bigs) if t[2] < n]
-    out['bigs skipped'] = len(c.bigs) - len(kept)
-    out['bigs of two segments or more'] = sum(c.bigs[b][1] < c.bigs[b][2] for b in kept)
-    out['opposing segments whose range is missing'] = sum(x is None for b in kept for x in opposing(c, b))
-    if len(zs) <= 256:
-        for z in zs: out[f'runs of {z.members if z.members < 3 else "3 or more"}'] += 1
-        out['zones of segments of two strokes or more'] = sum(c.segs[z.first][1] < c.segs[z.first][2] for z in zs)
-        out['zones of a big against its superior'] = sum(any(s[1] <= z.big <= s[2] and s[0] != c.bigs[z.big][0] for s in c.sups) for z in zs)
-        spans = [[x for x in opposing(c, z.big) if x is not None and x.at >= z.first][:z.members] for z in zs]
-        ties = [[x.low_bar for x in xs if x.low == z.dd] for xs, z in zip(spans, zs)] + [[x.high_bar for x in xs if x.high == z.gg] for xs, z in zip(spans, zs)]
-        out['ties of dd or gg at different bars'] = sum(min(bars) != max(bars) for bars in ties)
-        out['ties that a later member decides'] = sum(min(bars) != bars[0] for bars in ties)
     return out
 
 # ---- the scan
@@ -616,7 +524,7 @@ def first_marks(c, byte, buy):
         elif on('first-last-kept'): keep[i] = m
     return keep
 
-# ---- all sections, as oracle/main.rs prints them, and LOWER behind them
+# ---- all sections, as oracle/main.rs prints them
 def hx(x): return '%016X' % struct.unpack('>Q', struct.pack('>d', float(x)))[0]
 def side(b): return 'buy' if b else 'sell'
 def section(head, rows): return [f'{head} {len(rows)}'] + rows
@@ -631,7 +539,7 @@ def nine(c):
 def range_row(r, e):
     span = 'missing' if r is None else f'{r[2]} {r[3]} {hx(r[0])} {hx(r[1])} {r[4]} {r[5]}'
     return span + (' none' if e is None else f' {e[2]} {hx(e[4])}')
-def zone_row(z): return f'{z[0]} {z.start} {z.end} {hx(z.zd)} {hx(z.zg)} {hx(z.dd)} {hx(z.gg)} {z.first} {z.members} {z.dd_bar} {z.gg_bar}'
+def zone_row(z): return f'{z.sup} {z.start} {z.end} {hx(z.zd)} {hx(z.zg)} {hx(z.dd)} {hx(z.gg)} {z.first} {z.members} {z.dd_bar} {z.gg_bar}'
 def report(c, passed=0):
     zs = zones(c)
     many = len(zs) > 256
@@ -646,7 +554,7 @@ def report(c, passed=0):
         for b in (0, 1): o += tried(f'CLASSES {head} case3={b}', lambda: class_rows(b, items(c)))
     for head, buy in (('FIRSTBUY', True), ('FIRSTSELL', False)):
         for b in (0, 1): o += tried(f'{head} case3={b}', lambda: [f'{m[0]} {hx(m[1])}' for m in first_marks(c, b, buy)])
-    return o + lower_section(c)
+    return o
 
 # ---- the program marks: what it prints for a chart file and a bars file (02, requests 2 and 14)
 SIZES = {b'ST': (21, 512), b'SR': (21, 512), b'SG': (5, 256), b'BG': (5, 256), b'SU': (5, 256), b'BR': (16, None)}
@@ -685,11 +593,6 @@ def refused_at(chart):
         number, at = refusal.args
         return number, chart[at:at + 2] if at < 65536 else b''
     return 0, b''
-def lower_text(chart, bars):
-    """the section LOWER of two files as `report` prints it, nothing where one is refused"""
-    try: c, _ = files(chart, bars)
-    except Refused: return b''
-    return '\n'.join(lower_section(c) + ['']).encode()
 def marks(chart, bars):
     """what the program marks must print for two files, as bytes"""
     try: c, _ = files(chart, bars)

@@ -1,6 +1,5 @@
 """Runs our programs, those that read chart.dat and bars.dat in a folder of its own, and the reference."""
 import os, re, shutil, struct, subprocess, tempfile, threading, time
-import model
 
 root = os.path.join(os.path.dirname(os.path.abspath(__file__)), "..")
 NAMES = ["chart.dat", "bars.dat"]
@@ -26,11 +25,6 @@ def reference(pairs, sections):
     command = [os.path.join(root, "target/oracle/oracle"), "many", *sections]
     out = subprocess.run(command, input=behind_lengths(f for pair in pairs for f in pair), capture_output=True, check=True).stdout
     return re.split(rb"^CHART \d+\n", out, flags=re.M)[1:]
-
-def reported(pairs, sections):
-    """for each of many pairs of files, what `report` must print: these sections from the reference, and `lower`, which it has not, from the model"""
-    theirs = reference(pairs, [s for s in sections if s != "lower"])
-    return [text + (model.lower_text(*pair) if "lower" in sections else b"") for pair, text in zip(pairs, theirs, strict=True)]
 
 # ---- how a program finds a file. It must take each for empty, but a plain one and a pipe
 

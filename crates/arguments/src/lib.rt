@@ -1,4 +1,7 @@
 // The arguments of a program that is timed: a word, and a number.
+
+#![tactic(auto)]
+
 ghost use Rattle.std.specs.Prelude.{◌≤◌};
 
 // An argument of at most eight bytes, with zeros behind it.

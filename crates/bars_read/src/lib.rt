@@ -1,4 +1,7 @@
 // Reading a bars file: every byte string gets an answer.
+
+#![tactic(auto)]
+
 ghost use Rattle.std.specs.Prelude.{◌≡◌, ◌&&◌, ◌/◌, min, length, get_or, eqb};
 ghost use mathlib.Core.List.{List, foldl};
 ghost use Rattle.rules.specs.Answer.{count_answer, given};
@@ -8,7 +11,7 @@ ghost use Rattle.bars_read.specs.Heads.{last_of, answer_of};
 
 // A number, 0 where the file is accepted; the place of the refused record's mark, 0 where none is refused; and the number of
 // bars, 0 where it is refused.
-#[derive(Drop)]
+#[derive(Clone, Copy)]
 pub struct BarsRead {
     pub number: u8,
     pub place: usize,
@@ -16,7 +19,7 @@ pub struct BarsRead {
 }
 
 // The bar at the head of some bytes, its high and its low, or the number of its refusal.
-#[derive(Drop)]
+#[derive(Clone, Copy)]
 enum Head {
     Refused(u8),
     Bar(f64, f64),

@@ -1,4 +1,7 @@
 // What the contracts of the calls on a bars file come to: bars written and read again.
+
+#![tactic(auto)]
+
 ghost use Rattle.rules.specs.Answer.{count_answer};
 ghost use Rattle.rules.specs.Records.{Quotes};
 ghost use Rattle.bars_trip.specs.Trip.{Tripped};

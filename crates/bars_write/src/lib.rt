@@ -1,4 +1,7 @@
 // Writing a bars file.
+
+#![tactic(auto)]
+
 ghost use Rattle.std.specs.Prelude.{◌≡◌, true, ◌*◌, ◌≤◌, length, ltb};
 ghost use Rattle.price.specs.Price.{Price, all_prices};
 ghost use Rattle.rules.specs.Answer.{answered};
@@ -100,7 +103,7 @@ fn refusal(highs: &[f64], lows: &[f64], buffer: &[u8]) -> u8
 // ---- the call
 
 // A number, 0 where the bars are written, and the byte count, 0 where it is refused.
-#[derive(Drop)]
+#[derive(Clone, Copy)]
 pub struct Written {
     pub number: u8,
     pub count: usize,

@@ -1,4 +1,7 @@
 // The conditions that refuse a live call, in document 01's order, and the records of a chart that break their add's.
+
+#![tactic(auto)]
+
 ghost use Rattle.std.specs.Prelude.{◌≡◌, false, cond, ◌≤◌, ◌-◌, length, take, eqb};
 ghost use mathlib.Core.List.{List, get_last?};
 ghost use Rattle.std.proofs.Math.Option.{none, some};

@@ -1,9 +1,11 @@
 // The records of a chart, of its zones, classes, labels and marks. Where the reference has a record, a comment gives its name;
 // fields that it has keep theirs.
 
+#![tactic(auto)]
+
 // Direction: 1 up, 0 down. Roll byte: with 1 the start price need not be the end price of the stroke before. (Added; the reference has none.)
 // A price is a finite f64 that is not -0.
-#[derive(Drop)]
+#[derive(Clone, Copy)]
 pub struct Stroke {
     pub direction: u8,
     pub roll: u8,
@@ -24,7 +26,7 @@ pub const NO_STROKE: Stroke = Stroke {
 };
 
 // A segment, a big segment ("big") or a superior: first and last index the level below.
-#[derive(Drop)]
+#[derive(Clone, Copy)]
 pub struct Triple {
     pub direction: u8,
     pub first: u16,
@@ -39,7 +41,7 @@ pub const NO_TRIPLE: Triple = Triple {
 
 // What a big covers: the smaller and the larger of its two prices, and its bars. Added: which of these bars gave the low, and which the high.
 // (BigSegRange)
-#[derive(Drop)]
+#[derive(Clone, Copy)]
 pub struct Span {
     pub low: f64,
     pub high: f64,
@@ -50,25 +52,24 @@ pub struct Span {
 }
 
 // The range of a big. A missing one is an answer that each caller takes apart first. (Option<BigSegRange>)
-#[derive(Drop)]
+#[derive(Clone, Copy)]
 pub enum Range {
     Found(Span),
     Missing,
 }
 
 // The end point of a big: the end bar and end price of the last stroke of its last segment. (Option<(usize, f64)>)
-#[derive(Drop)]
+#[derive(Clone, Copy)]
 pub enum EndPoint {
     At(u16, f64),
     Nowhere,
 }
 
-// A zone: the index of its owner, its bars and its four prices. The owner is the superior of an overlap zone (`sup_idx` of BigSegmentZhongShu) or the
-// big of a lower one (`big_idx` of SegmentZhongShu). Added: the index of its first member in the level below the owner's, how many opposing records of the
-// owner, in order from that one, are its members, and the bars of dd and gg.
-#[derive(Drop)]
+// An overlap zone: the index of its superior, its bars and its four prices. Added: the index among the bigs of its first member,
+// how many opposing bigs of the superior, in order from that one, are its members, and the bars of dd and gg. (BigSegmentZhongShu)
+#[derive(Clone, Copy)]
 pub struct Zone {
-    pub owner_idx: u16,
+    pub sup_idx: u16,
     pub start_bar: u16,
     pub end_bar: u16,
     pub zd: f64,
@@ -82,7 +83,7 @@ pub struct Zone {
 }
 
 pub const NO_ZONE: Zone = Zone {
-    owner_idx: 0,
+    sup_idx: 0,
     start_bar: 0,
     end_bar: 0,
     zd: 0.0,
@@ -96,7 +97,7 @@ pub const NO_ZONE: Zone = Zone {
 };
 
 // What a third mark beat: the edge of a zone, zg for a buy and zd for a sell, or the price C of an anchor.
-#[derive(Drop)]
+#[derive(Clone, Copy)]
 pub enum Ground {
     Zone(f64),
     Anchor(f64),
@@ -105,7 +106,7 @@ pub enum Ground {
 // The marks. Their fields stand in an order that leaves little room between them, so that rows are small.
 
 // A third mark. is_buy is its side: an up leave is a buy, and its price is the lent low; a sell's is the lent high. (BigSegThirdMarker)
-#[derive(Drop)]
+#[derive(Clone, Copy)]
 pub struct ThirdMark {
     pub bar_index: u16,
     pub is_buy: bool,
@@ -114,7 +115,7 @@ pub struct ThirdMark {
 }
 
 // A 3+N mark. A third mark has order 0. (BigSeg3NMarker)
-#[derive(Drop)]
+#[derive(Clone, Copy)]
 pub struct NMark {
     pub bar_index: u16,
     pub is_buy: bool,
@@ -123,7 +124,7 @@ pub struct NMark {
 }
 
 // A first mark of a side, at the end bar and the end price of a class. (BigSegFirstMarker)
-#[derive(Drop)]
+#[derive(Clone, Copy)]
 pub struct FirstMark {
     pub bar_index: u16,
     pub is_buy: bool,
@@ -132,7 +133,7 @@ pub struct FirstMark {
 
 // A class of segments or of bigs: the indices of its first and last item, its direction, whether it is by case 3 (or else by case 2),
 // whether its end was extended, and whether it is adjacent to the class before. (BigSegInfo, SupSegmentInfo)
-#[derive(Drop)]
+#[derive(Clone, Copy)]
 pub struct Class {
     pub first: u16,
     pub last: u16,
@@ -143,7 +144,7 @@ pub struct Class {
 }
 
 // A label in UTF-8: the first len bytes. The name of any u64 has at most 14 letters. (TrendZhongShuLabel)
-#[derive(Drop)]
+#[derive(Clone, Copy)]
 pub struct Label {
     pub bytes: [u8; 16],
     pub len: u8,
@@ -151,7 +152,7 @@ pub struct Label {
 
 // A loaded chart: four levels, each in the first places of its array. A count may be above its array's size; then every call is
 // refused. What lies behind a count is not part of the chart.
-#[derive(Drop)]
+#[derive(Clone, Copy)]
 pub struct Chart {
     pub strokes: [Stroke; 512],
     pub stroke_count: u16,
@@ -165,7 +166,7 @@ pub struct Chart {
 
 // A call on a live chart, with its arguments but without the chart: an add to a level, lengthen with the new last, withdraw with a level, derive
 // with its case-3 byte.
-#[derive(Drop)]
+#[derive(Clone, Copy)]
 pub enum Call {
     Stroke(Stroke),
     Segment(Triple),

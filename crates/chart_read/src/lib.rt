@@ -1,4 +1,7 @@
 // Reading a chart file: every byte string gets an answer.
+
+#![tactic(auto)]
+
 ghost use Rattle.std.specs.Prelude.{◌≡◌, ◌≤◌, length, drop};
 ghost use Rattle.rules.specs.File.{kind_of, width, read_record, read_file};
 ghost use Rattle.chart_read.specs.Loaded.{loaded};
@@ -8,7 +11,7 @@ use chart::{Chart, Stroke, Triple};
 
 // A number, 0 where the file is accepted; the place of the refused record's mark, 0 where none is refused. The chart, which beside a
 // refusal is free, and how many BR records were passed over, 0 beside a refusal.
-#[derive(Drop)]
+#[derive(Clone, Copy)]
 pub struct Loaded {
     pub number: u8,
     pub place: usize,
@@ -17,7 +20,7 @@ pub struct Loaded {
 }
 
 // The levels above the strokes, whose records are triples.
-#[derive(Drop)]
+#[derive(Clone, Copy)]
 enum Level {
     Segment,
     Big,
@@ -25,7 +28,7 @@ enum Level {
 }
 
 // The kinds of record. Whether a stroke is rolled its mark tells.
-#[derive(Drop)]
+#[derive(Clone, Copy)]
 enum Mark {
     Stroke(bool),
     Triple(Level),
@@ -33,14 +36,14 @@ enum Mark {
 }
 
 // What two bytes mark.
-#[derive(Drop)]
+#[derive(Clone, Copy)]
 enum MarkRead {
     Mark(Mark),
     NoMark,
 }
 
 // The record at the head of some bytes, or the number of its refusal. A bar's bytes are not looked at.
-#[derive(Drop)]
+#[derive(Clone, Copy)]
 enum Head {
     Refused(u8),
     Stroke(Stroke),
@@ -49,7 +52,7 @@ enum Head {
 }
 
 // How many records of each level there are.
-#[derive(Drop)]
+#[derive(Clone, Copy)]
 struct Counts {
     strokes: u16,
     segments: u16,

@@ -1,4 +1,7 @@
 // What the contracts of the file calls come to: a chart written and read again, and two charts compared by their files.
+
+#![tactic(auto)]
+
 ghost use Rattle.std.specs.Prelude.{◌≡◌};
 ghost use Rattle.rules.specs.File.{buffer_after};
 ghost use Rattle.chart_read.specs.Loaded.{loaded};
@@ -45,7 +48,7 @@ fn same_refusal(a: Chart, b: Chart, first: &[u8], second: &[u8]) -> u8
 }
 
 // A number, 0 where both charts are written, and whether their files are equal, false where one is refused.
-#[derive(Drop)]
+#[derive(Clone, Copy)]
 pub struct Same {
     pub number: u8,
     pub same: bool,

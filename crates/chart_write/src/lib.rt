@@ -1,4 +1,7 @@
 // Writing a chart file.
+
+#![tactic(auto)]
+
 ghost use Rattle.std.specs.Prelude.{◌≡◌, false, [], ◌∷◌, map, ◌+◌, ◌*◌, ◌≤◌, length, take};
 ghost use Rattle.rules.specs.Answer.{answered};
 ghost use Rattle.rules.specs.Lists.{any, each};
@@ -186,7 +189,7 @@ pub fn refusal(chart: Chart, buffer: &[u8]) -> u8
 // ---- the call
 
 // A number, 0 where the chart is written, and the byte count, 0 where it is refused.
-#[derive(Drop)]
+#[derive(Clone, Copy)]
 pub struct Written {
     pub number: u8,
     pub count: usize,

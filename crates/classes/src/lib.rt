@@ -1,4 +1,7 @@
 // Classes of segments and of bigs: one rule over items, for two levels.
+
+#![tactic(auto)]
+
 ghost use Rattle.std.specs.Prelude.{◌≡◌, cond, ◌&&◌, ◌<◌, ◌≤◌, min, eqb, take};
 ghost use Rattle.std.proofs.Math.Option.{none};
 ghost use Rattle.rules.specs.Answer.{rows_answer, given, refused};
@@ -11,7 +14,7 @@ ghost use Rattle.classes.specs.Items.{CountsFit, level_of, row_item, item_from, 
 use chart::{Chart, Class, Stroke, Triple};
 
 // The answer of a class call: a number, and where it is 0 the first `count` rows.
-#[derive(Drop)]
+#[derive(Clone, Copy)]
 pub struct ClassRows {
     pub number: u8,
     pub count: u16,
@@ -19,7 +22,7 @@ pub struct ClassRows {
 }
 
 // A segment or a big, by its direction and the prices of its first and last stroke.
-#[derive(Drop)]
+#[derive(Clone, Copy)]
 pub struct Item {
     pub direction: u8,
     pub start: f64,
@@ -80,7 +83,7 @@ fn at_or_short(d: u8, a: f64, b: f64) -> bool
 // ---- cases 2 and 3
 
 // The index of the item that case 2 makes the end of a class, where it holds.
-#[derive(Drop)]
+#[derive(Clone, Copy)]
 enum End {
     At(u16),
     Nowhere,
@@ -122,7 +125,7 @@ fn case2<'a>(
 }
 
 // What the walk keeps of a class: its direction, and the start price and the case 2 of its first item.
-#[derive(Drop)]
+#[derive(Clone, Copy)]
 struct Held {
     direction: u8,
     start: f64,
@@ -130,7 +133,7 @@ struct Held {
 }
 
 // The last class of the walk, where there is one.
-#[derive(Drop)]
+#[derive(Clone, Copy)]
 enum Last {
     Begin,
     After(Held),
@@ -176,7 +179,7 @@ fn wanted(last: Last, x: Item) -> bool
 }
 
 // The class of an item that was tried, where it begins one.
-#[derive(Drop)]
+#[derive(Clone, Copy)]
 enum NewClass {
     Found(Class),
     Nothing,
@@ -214,7 +217,7 @@ fn tried(on: bool, last: Last, i: u16, x: Item, end: End) -> NewClass
 }
 
 // Classes, in the first `count` rows.
-#[derive(Drop)]
+#[derive(Clone, Copy)]
 struct Rows {
     count: u16,
     rows: [Class; 256],
@@ -388,7 +391,7 @@ fn classes_of<'a>(
 // ---- items of a level
 
 // Items in the first places of three columns; lacking, where a record that one of them needs is not there.
-#[derive(Drop)]
+#[derive(Clone, Copy)]
 struct Gathered {
     lacking: bool,
     directions: [u8; 256],
@@ -430,7 +433,7 @@ fn over_strokes(bigs: bool, t: Triple, a: Triple, z: Triple) -> Triple
 }
 
 // The item of a record, where it is there.
-#[derive(Drop)]
+#[derive(Clone, Copy)]
 enum ItemRead {
     There(Item),
     Lacking,

@@ -1,5 +1,8 @@
 // The bytes of a file by its name. 02, request 14: "A file that can't be opened or read counts as empty." Of reading only safety is proved: no
 // contract can say what a file holds.
+
+#![tactic(auto)]
+
 ghost use Rattle.std.specs.Prelude.{◌≡◌, length};
 ghost use Rattle.io.specs.Counts.{IsPrefixLen};
 

@@ -1,4 +1,7 @@
 // First marks: those of neighbouring classes of bigs, at the end of the second, sorted by bar.
+
+#![tactic(auto)]
+
 ghost use Rattle.std.specs.Prelude.{◌+◌, ◌<◌, ◌≤◌, ◌≡◌, true, false, take};
 ghost use mathlib.Core.List.{[], foldl};
 ghost use Rattle.rules.specs.Answer.{rows_answer, given};
@@ -11,7 +14,7 @@ ghost use Rattle.first_marks.specs.Placed.{Stands, bars_of};
 use chart::{Chart, Class, FirstMark};
 
 // The answer of a first-mark call: a number, and where it is 0 the first `count` rows.
-#[derive(Drop)]
+#[derive(Clone, Copy)]
 pub struct FirstRows {
     pub number: u8,
     pub count: u16,
@@ -42,7 +45,7 @@ fn fitting(buy: bool, q: Class, n: Class) -> bool
 // ---- marks by bar
 
 // Marks, in the first `count` rows.
-#[derive(Drop)]
+#[derive(Clone, Copy)]
 struct Rows {
     count: u16,
     rows: [FirstMark; 256],

@@ -1,22 +1,25 @@
--- 21 of a live call, by the answers of the calls for zones and lower zones on its chart. Assumes nothing.
-use Prim.Native.Nat.{ℕ, ◌≤◌}
+-- 21 of a live call, by the answer of the zone call on its chart. Assumes nothing.
+use Prim.Native.Nat.{ℕ, ◌<◌, ◌≤◌}
 use native.Mathlib.Omega.{arith}
-use mathlib.Core.Path.{◌≡◌, refl, ◌∙◌}
-use mathlib.Core.Bool.{Bool, true, false, not, ◌||◌, or-true}
+use mathlib.Core.Path.{◌≡◌, refl}
+use mathlib.Core.Bool.{Bool, true, false, not, ◌||◌, or-true, or-false}
 use mathlib.Core.List.{List}
 use lib.ListN.{length, take, length-take}
 use lib.Dec.{ltb}
-use borrow.Author.Tests.{ltb-true, ltb-false}
+use borrow.Author.Tests.{ltb-true, lt-ltb, le-ltb}
 use Rattle.chart.specs.declared.Zone.{Zone}
-use Rattle.rules.specs.Answer.{answered, rows_answer}
+use Rattle.chart.specs.declared.Chart.{Chart}
+use Rattle.rules.specs.Answer.{rows_answer}
 use Rattle.rules.specs.Lists.{any}
 use Rattle.rules.specs.Records.{Levels, levels_of}
-use Rattle.rules.specs.Zones.{overlap_zones, lower_zones_of}
-use Rattle.rules.specs.Refusals.{refuse, bad_chart, broken_levels, same_zones, other_zones, LiveData, bad_live, zones_refusal}
+use Rattle.rules.specs.Zones.{overlap_zones}
+use Rattle.rules.specs.Refusals.{refuse, overfull, bad_levels, bad_chart, broken_levels, same_zones, LiveData, kept_zones, bad_live, zones_refusal}
 use Rattle.rules.specs.Calls.{zones_call}
-use Rattle.laws.proofs.Lists.{All, all_map, false-any}
+use Rattle.laws.proofs.Tests.{or_l, or_r}
+use Rattle.laws.proofs.Lists.{all_map, false-any}
 use Rattle.laws.proofs.Bounds.{Bounded}
-use Rattle.laws.proofs.Answers.{on-good, rows-given, rows-number, call-good}
+use Rattle.laws.proofs.Zones.{zones-bounded}
+use Rattle.laws.proofs.Answers.{Rows, call-number, call-good, call_rows}
 use Rattle.kept.specs.ZonePrices.{unpriced}
 use Rattle.kept.proofs.Same.{not_as_long}
 
@@ -25,66 +28,75 @@ bounded_priced : (z : Zone) → Bounded z → unpriced z ≡ false
 unfolding unpriced
 bounded_priced z b = rw (b.zd_price, b.zg_price, b.dd_price, b.gg_price)
 
--- ---- the answer of a call that gives the zones of a rule, and is refused where they are more than 256
+-- ---- the zone call's answer
 
-module _ (rule : List Zone) (k count : ℕ) (rows : List Zone) (e : rows_answer k count rows ≡ answered (refuse (ltb 256 (length rule)) 11 0) rule) where
-  -- no places keep more zones than there are
-  pub refused-other : (k ≡ 0 → ⊥) → (zones : List Zone) (n : ℕ) → other_zones zones n rule ≡ true
-  unfolding other_zones refuse
-  refused-other h zones n = go (ltb 256 n) (ltb 256 (length rule)) refl refl (rows-number count rows _ rule k e)
+module _ (c : Chart) (k count : ℕ) (rows : List Zone) (e : rows_answer k count rows ≡ zones_call c) where
+  abbrev l : Levels
+  l = levels_of c
+
+  -- a refusal that is not 21 is of more zones than an array holds
+  found-many : bad_chart c ≡ false → (k ≡ 0 → ⊥) → 256 < length (overlap_zones l)
+  unfolding zones_call zones_refusal refuse
+  found-many b h = many (ltb 256 (length (overlap_zones l))) refl (call-number c zones_refusal overlap_zones k count rows e b)
     where
-      go : (t u : Bool) → ltb 256 n ≡ t → ltb 256 (length rule) ≡ u → k ≡ refuse u 11 0 → (t || not (same_zones (take n zones) rule)) ≡ true
-      go true u f g w = refl
-      go false false f g w = absurd (h w)
-      go false true f g w =
-          let few = ltb-false 256 n f in
-          let many = ltb-true 256 (length rule) g in
-          let short = length-take n zones in
-          rw (not_as_long (take n zones) rule (λ same. absurd (omega (arith, same, many, few, short))))
+      many : (t : Bool) → ltb 256 (length (overlap_zones l)) ≡ t → k ≡ refuse t 11 0 → 256 < length (overlap_zones l)
+      many true f g = ltb-true 256 _ f
+      many false f g = absurd (h g)
 
-  pub given-few : k ≡ 0 → count ≤ length rows
-  given-few h = (rows-given count rows _ rule (rw h at e)).few
+  module _ (h : k ≡ 0) where
+    found-good : bad_chart c ≡ false
+    unfolding zones_call
+    found-good = call-good c zones_refusal overlap_zones k count rows e h
 
-  pub given_same : k ≡ 0 → take count rows ≡ rule
-  given_same h = (rows-given count rows _ rule (rw h at e)).same
+    found_rows : Rows count rows (zones_refusal l) (overlap_zones l)
+    unfolding zones_call
+    found_rows = call_rows c zones_refusal overlap_zones k count rows e h
 
-  pub given-priced : k ≡ 0 → All Bounded rule → any unpriced (take count rows) ≡ false
-  given-priced h b = rw (given_same h) (false-any unpriced (all_map bounded_priced b))
+    pub found-room : overfull c ≡ false
+    unfolding bad_chart
+    found-room = or_l (overfull c) (bad_levels l) found-good
+
+    pub found-few : count ≤ length rows
+    found-few = found_rows.few
+
+    pub found-priced : any unpriced (take count rows) ≡ false
+    unfolding bad_chart
+    found-priced =
+        rw found_rows.same
+        (false-any unpriced (all_map bounded_priced (zones-bounded l (or_r (overfull c) (bad_levels l) found-good))))
 
 -- ---- 21, by each reason
 
 module _ (b : LiveData) where
-  abbrev l : Levels
-  l = levels_of b.chart
+  pub live-count : 256 < b.zone_count → true ≡ bad_live b
+  unfolding bad_live
+  live-count h = simp (lt-ltb 256 b.zone_count h, or-true)
 
-  module _ (k count : ℕ) (rows : List Zone) (e : rows_answer k count rows ≡ zones_call b.chart) where
-    -- behind 21 the zone call is such a call
-    module _ (good : bad_chart b.chart ≡ false) where
-      pub zones-answer : rows_answer k count rows ≡ answered (refuse (ltb 256 (length (overlap_zones l))) 11 0) (overlap_zones l)
-      unfolding zones_call zones_refusal
-      zones-answer = e ∙ on-good b.chart _ good
+  live-bad : bad_chart b.chart ≡ true → true ≡ bad_live b
+  unfolding bad_live
+  live-bad e = rw e
 
-    pub zones-good : k ≡ 0 → bad_chart b.chart ≡ false
-    unfolding zones_call
-    zones-good h = call-good b.chart zones_refusal overlap_zones k count rows e h
+  live-other : same_zones (kept_zones b) (overlap_zones (levels_of b.chart)) ≡ false → true ≡ bad_live b
+  unfolding bad_live
+  live-other e = simp (e, or-true)
 
-    -- its 21 is the chart's, and its 11 is of more zones than can be kept
+  module _ (few : b.zone_count ≤ 256) (k count : ℕ) (rows : List Zone) (e : rows_answer k count rows ≡ zones_call b.chart) where
+    -- the zone call's 21 is the chart's, and its 11 is of more zones than can be kept
     pub live-refused : (k ≡ 0 → ⊥) → true ≡ bad_live b
-    unfolding bad_live
     live-refused h = go (bad_chart b.chart) refl
       where
         go : (t : Bool) → bad_chart b.chart ≡ t → true ≡ bad_live b
-        go true bad = rw bad
-        go false good = simp (refused-other (overlap_zones l) k count rows (zones-answer good) h b.zones b.zone_count, or-true)
+        go true bad = live-bad bad
+        go false good =
+            let many = found-many b.chart k count rows e good h in
+            let short = length-take b.zone_count b.zones in
+            live-other (not_as_long (kept_zones b) (overlap_zones (levels_of b.chart)) (λ same. absurd (omega (arith, same, many, short))))
 
-  -- more lower zones than can be kept
-  pub live-lower : other_zones b.lower b.lower_count (lower_zones_of l) ≡ true → true ≡ bad_live b
-  unfolding bad_live
-  live-lower e = simp (e, or-true)
-
-  -- where neither is refused, the records and the kept zones decide
-  pub live-given :
-      (broken other below : Bool) → bad_chart b.chart ≡ false → broken ≡ broken_levels l → other ≡ other_zones b.zones b.zone_count (overlap_zones l)
-      → below ≡ other_zones b.lower b.lower_count (lower_zones_of l) → (broken || other || below) ≡ bad_live b
-  unfolding bad_live
-  live-given broken other below good f s t = simp (f, s, t, good)
+    -- where it gives zones, the records and the kept zones decide
+    pub live-given :
+        (broken same : Bool) → k ≡ 0 → broken ≡ broken_levels (levels_of b.chart) → same ≡ same_zones (kept_zones b) (take count rows)
+        → (broken || not same) ≡ bad_live b
+    unfolding bad_live
+    live-given broken same h f s =
+        let c = b.chart in
+        simp (f, s, (found_rows c k count rows e h).same, found-good c k count rows e h, le-ltb 256 b.zone_count few, or-false)

@@ -51,7 +51,7 @@ priced z h =
 pub same-fields :
     (a b : Zone) (zd zg dd gg : Bool) → zd ≡ same_price a.zd b.zd → zg ≡ same_price a.zg b.zg → dd ≡ same_price a.dd b.dd
     → gg ≡ same_price a.gg b.gg
-    → (eqb a.owner_idx b.owner_idx && eqb a.start_bar b.start_bar && eqb a.end_bar b.end_bar && zd && zg && dd && gg
+    → (eqb a.sup_idx b.sup_idx && eqb a.start_bar b.start_bar && eqb a.end_bar b.end_bar && zd && zg && dd && gg
     && eqb a.first_member b.first_member && eqb a.members b.members && eqb a.dd_bar b.dd_bar
     && eqb a.gg_bar b.gg_bar)
     ≡ same_zone a b

@@ -1,8 +1,11 @@
-// 21 of a live call: of the chart, of records that break their add's conditions, and of kept zones other than the overlap rule's, at either level.
+// 21 of a live call: of the chart, of records that break their add's conditions, and of kept zones other than the overlap rule's.
+
+#![tactic(auto)]
+
 ghost use Rattle.std.specs.Prelude.{◌≡◌, false, ◌≤◌, take};
 ghost use Rattle.price.specs.Price.{Price};
 ghost use Rattle.rules.specs.Lists.{any};
-ghost use Rattle.rules.specs.Refusals.{same_price, same_zone, same_zones, other_zones, bad_live};
+ghost use Rattle.rules.specs.Refusals.{same_price, same_zone, same_zones, bad_live};
 ghost use Rattle.kept.specs.ZonePrices.{unpriced};
 
 use chart::{Chart, Zone};
@@ -23,7 +26,7 @@ fn same_zone(a: Zone, b: Zone) -> bool
     requires { unpriced b ≡ false }
     ensures { result ≡ same_zone a b }
 {
-    (a.owner_idx == b.owner_idx)
+    (a.sup_idx == b.sup_idx)
         & (a.start_bar == b.start_bar)
         & (a.end_bar == b.end_bar)
         & same_price(a.zd, b.zd)
@@ -56,33 +59,18 @@ fn same_zones(a: [Zone; 256], n: u16, b: [Zone; 256], m: u16) -> bool
     true
 }
 
-// Whether the first n of some places, which keep zones, are other than the first m of these.
-fn other_zones(zones: [Zone; 256], n: u16, rule: [Zone; 256], m: u16) -> bool
-    requires { (m ≤ 256) × (any unpriced (take m rule) ≡ false) }
-    ensures { result ≡ other_zones zones n (take m rule) }
+// 21 of a live call on a chart that keeps the first n of these zones.
+pub fn bad_live(chart: Chart, zones: [Zone; 256], n: u16) -> bool
+    ensures { result ≡ bad_live (record { chart = chart; zones = zones; zone_count = n }) }
 {
     if 256 < n {
         return true;
     }
-    !same_zones(zones, n, rule, m)
-}
-
-// 21 of a live call on a chart that keeps the first n of these zones and the first m of these lower ones. More zones than there are places are 21 too.
-pub fn bad_live(chart: Chart, zones: [Zone; 256], n: u16, lower: [Zone; 256], m: u16) -> bool
-    ensures { result ≡ bad_live (record { chart = chart; zones = zones; zone_count = n; lower = lower; lower_count = m }) }
-{
     let found = zones::detect_bigseg_zhongshus_by_overlap(chart);
     if found.number != 0 {
         return true;
     }
-    let below = lower_zones::lower_rows(chart);
-    if below.number != 0 {
-        return true;
-    }
     let broken = calls::broken_levels(chart);
     let rows = found.rows;
-    let lower_rows = below.rows;
-    broken
-        | other_zones(zones, n, rows, found.count)
-        | other_zones(lower, m, lower_rows, below.count)
+    broken | !same_zones(zones, n, rows, found.count)
 }

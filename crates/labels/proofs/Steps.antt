@@ -38,19 +38,19 @@ module _ (l : Last) (z : Zone) where
   name-first e = rw e
 
 module _ (l : Last) (z held : Zone) (n : ℕ) (e : l ≡ last.Named held n) where
-  pub name-other : (held.owner_idx ≡ z.owner_idx → ⊥) → some 0 ≡ name_of (named_in l) z
+  pub name-other : (held.sup_idx ≡ z.sup_idx → ⊥) → some 0 ≡ name_of (named_in l) z
   unfolding name_of
   name-other s = rw (e, ne_eqb _ _ s)
 
-  pub name_above : held.owner_idx ≡ z.owner_idx → lt held.gg z.dd ≡ true → some n ≡ name_of (named_in l) z
+  pub name_above : held.sup_idx ≡ z.sup_idx → lt held.gg z.dd ≡ true → some n ≡ name_of (named_in l) z
   unfolding name_of
   name_above s a = rw (e, eq-eqb _ _ s, a)
 
-  pub name_below : held.owner_idx ≡ z.owner_idx → lt held.gg z.dd ≡ false → lt z.gg held.dd ≡ true → some n ≡ name_of (named_in l) z
+  pub name_below : held.sup_idx ≡ z.sup_idx → lt held.gg z.dd ≡ false → lt z.gg held.dd ≡ true → some n ≡ name_of (named_in l) z
   unfolding name_of
   name_below s a b = rw (e, eq-eqb _ _ s, a, b)
 
-  pub name-none : held.owner_idx ≡ z.owner_idx → lt held.gg z.dd ≡ false → lt z.gg held.dd ≡ false → none ≡ name_of (named_in l) z
+  pub name-none : held.sup_idx ≡ z.sup_idx → lt held.gg z.dd ≡ false → lt z.gg held.dd ≡ false → none ≡ name_of (named_in l) z
   unfolding name_of
   name-none s a b = rw (e, eq-eqb _ _ s, a, b)
 
@@ -58,7 +58,7 @@ module _ (l : Last) (z held : Zone) (n : ℕ) (e : l ≡ last.Named held n) wher
 pub next-most : (k : Option Named) (z : Zone) → next_name (last_after k z (name_of k z)) ≤ suc (next_name k)
 unfolding name_of
 next-most none z = omega arith
-next-most (some k) z = go (not (eqb k.zone.owner_idx z.owner_idx)) (lt k.zone.gg z.dd || lt z.gg k.zone.dd)
+next-most (some k) z = go (not (eqb k.zone.sup_idx z.sup_idx)) (lt k.zone.gg z.dd || lt z.gg k.zone.dd)
   where
     go : (t u : Bool) → next_name (last_after (some k) z (cond t (some 0) (cond u (some k.next) none))) ≤ suc k.next
     go true u = omega arith

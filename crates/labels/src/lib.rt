@@ -1,4 +1,7 @@
 // Labels of zones and their names, as bytes of UTF-8.
+
+#![tactic(auto)]
+
 ghost use Rattle.std.specs.Prelude.{◌≡◌, ◌≤◌, ◌<◌, List, [], ◌∷◌, map, length, eqb};
 ghost use Rattle.std.proofs.Math.Option.{none};
 ghost use Rattle.chart.specs.declared.Zone.{Zone};
@@ -17,7 +20,7 @@ ghost use Rattle.labels.specs.Steps.{named_in, next_name, name_in, mark, name_by
 use chart::{Chart, Label, Range, Zone};
 
 // The answer of the label call: a number, and where it is 0 the first `count` rows.
-#[derive(Drop)]
+#[derive(Clone, Copy)]
 pub struct LabelRows {
     pub number: u8,
     pub count: u16,
@@ -71,14 +74,14 @@ pub fn col_name(n: u64) -> Label
 
 // The bars of ranges, in two columns. They are made once a call: a loop over plain columns looks at several ranges at a time, which one
 // over the rows of the tables cannot.
-#[derive(Drop)]
+#[derive(Clone, Copy)]
 struct Bars {
     starts: [u32; 256],
     ends: [u32; 256],
 }
 
 // The bars of one range.
-#[derive(Drop)]
+#[derive(Clone, Copy)]
 struct Bar {
     start: u32,
     end: u32,
@@ -146,21 +149,21 @@ fn lone(starts: &[u32], ends: &[u32], m: usize, zone: Zone) -> bool
 // ---- names
 
 // A superior's last named zone, and its next name.
-#[derive(Drop)]
+#[derive(Clone, Copy)]
 enum Last {
     Nothing,
     Named(Zone, u16),
 }
 
 // The name that a zone gets, or that it is an extension.
-#[derive(Drop)]
+#[derive(Clone, Copy)]
 enum Name {
     Number(u16),
     Extension,
 }
 
 // The label of a zone, and the last named zone behind it.
-#[derive(Drop)]
+#[derive(Clone, Copy)]
 struct Labelled {
     label: Label,
     last: Last,
@@ -173,7 +176,7 @@ fn name_of(last: Last, zone: Zone) -> Name
     let Last::Named(held, next) = last else {
         return Name::Number(0);
     };
-    if held.owner_idx != zone.owner_idx {
+    if held.sup_idx != zone.sup_idx {
         return Name::Number(0);
     }
     if zone.dd > held.gg {

@@ -130,13 +130,13 @@ unfolding cut
 cut_bounded z [] b g = cons b nil
 cut_bounded z (m ∷ ms) b (cons g gs) =
     go (joins z m.span) refl (λ (k : Bounded (join z m.span)). cut_bounded (join z m.span) ms k gs)
-    (cut_bounded (begin z.owner_idx m) ms (begin_bounded z.owner_idx m g) gs)
+    (cut_bounded (begin z.sup_idx m) ms (begin_bounded z.sup_idx m g) gs)
   where
     go :
         (t : Bool) → joins z m.span ≡ t
         → (Bounded (join z m.span) → All Bounded (cut (join z m.span) ms))
-        → All Bounded (cut (begin z.owner_idx m) ms)
-        → All Bounded (elim t [ true ↦ cut (join z m.span) ms | false ↦ z ∷ cut (begin z.owner_idx m) ms ])
+        → All Bounded (cut (begin z.sup_idx m) ms)
+        → All Bounded (elim t [ true ↦ cut (join z m.span) ms | false ↦ z ∷ cut (begin z.sup_idx m) ms ])
     go true e f k = f (join-bounded z m.span b g e)
     go false e f k = cons b k
 

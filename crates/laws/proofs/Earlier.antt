@@ -72,7 +72,7 @@ inserts_rising xs (b ∷ l) s = inserts_rising (insert_bar xs b) l (insert_risin
 
 bars_rising : (c : Levels) (zs : List Zone) (h : ℕ) → Rising (scanned_bars c zs h)
 unfolding scanned_bars
-bars_rising c zs h = inserts_rising [] (each (scanned c zs) (keep (λ (z : Zone). eqb z.owner_idx h) zs)) none_left
+bars_rising c zs h = inserts_rising [] (each (scanned c zs) (keep (λ (z : Zone). eqb z.sup_idx h) zs)) none_left
 
 anchor_bars_rising : (c : Levels) → broken_levels c ≡ false → (buy : Bool) (a : Stroke) → Rising (anchor_bars c buy a)
 unfolding anchor_bars ends_after

@@ -11,9 +11,9 @@ use lib.Ieee.{Float, lt}
 use borrow.Author.Tests.{leb-true, leb-false}
 use Rattle.price.specs.Price.{Price}
 use Rattle.price.proofs.Order.{key-inj, keys, tests}
-use Rattle.rules.specs.Split.{Point}
 use Rattle.laws.proofs.Tests.{pick_cond}
 use Rattle.laws.proofs.Lists.{All, nil, cons}
+use Rattle.laws.proofs.Runs.{Point}
 
 -- an order of prices: `beyond p q` is whether p is strictly beyond q
 pub record Linear (beyond : Float → Float → Bool) : Type 0 where

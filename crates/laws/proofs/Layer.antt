@@ -20,16 +20,15 @@ use Rattle.chart.specs.declared.Zone.{Zone}
 use Rattle.price.specs.Price.{Price, lower, higher}
 use Rattle.rules.specs.Lists.{keep, each}
 use Rattle.rules.specs.Zones.{Member, low_bar_of, high_bar_of, runs, within, opposing_of, zones_of, zones_from, members_in}
-use Rattle.rules.specs.Split.{Part, members, Point, zone_of}
 use Rattle.rules.specs.Refusals.{broken_triples}
-use Rattle.rules.specs.Claims.{Opposes, MemberAt, OneZone, RangeAt, Extreme, Extremes, Covered}
+use Rattle.rules.specs.Claims.{Opposes, MemberAt, OneZone, RangeAt, Extreme, Extremes}
 use Rattle.laws.proofs.Tests.{none-some}
 use Rattle.laws.proofs.Lists.{All, nil, cons, all_map, all_append, all-cond, all-at, all-image, at_left, at_right, in_take, in-keep}
 use Rattle.laws.proofs.Lists.{map-append, map_at, at_map, each_append, in-each, each_in, each_all, all_both, in_map, map-in, all_in}
 use Rattle.laws.proofs.Triples.{follows, cons_of, triple_in_lem}
-use Rattle.laws.proofs.Runs.{Owned, parts_of, runs_parted}
+use Rattle.laws.proofs.Runs.{Part, members, Point, Owned, zone_of, parts_of, runs_split}
 use Rattle.laws.proofs.Extremes.{Linear, lower-first, higher-first, best, fold-in, fold-beats}
-use Rattle.laws.proofs.Bounds.{GoodRange, GoodMember, Bounded, edges, runs_bounded}
+use Rattle.laws.proofs.Bounds.{GoodRange, GoodMember, Bounded, runs_bounded}
 use Rattle.laws.proofs.Rising.{Between, between_lower, between_append, between_rest, between_length, between_apart, between_once, keep_from}
 use Rattle.laws.proofs.Opposing.{index, Ranged, owner-good, owner-ranged, owner-between, owner-rise, in-opposes, opposes-in}
 
@@ -136,7 +135,7 @@ module _ (range : Triple → Range) (level : List Triple) (p : Part) (ranged : A
             subst (λ (x : Span). (bestOf beyond price bar).bar ≤ bar x) (sym same) (beats.smaller (ap price (sym same) ∙ e));
       }
 
-  part-extremes : (of : Zone → List ℕ) → of (zone_of p) ≡ ids_of p → All GoodMember (members p) → Extremes range level of (zone_of p)
+  pub part-extremes : (of : Zone → List ℕ) → of (zone_of p) ≡ ids_of p → All GoodMember (members p) → Extremes range level of (zone_of p)
   unfolding zone_of lower higher low_bar_of high_bar_of
   part-extremes of known good =
       let low : Span → Float = λ s. s.low in
@@ -179,7 +178,7 @@ module _ (range : Triple → Range) (level : List Triple) where
   in-zones h s = go (ltb s.last (length level))
     where
       go : (t : Bool) → map zone_of (cond t (parts_of h (opposing_of range level s)) []) ≡ cond t (runs h (opposing_of range level s)) []
-      go true = (runs_parted h (opposing_of range level s)).zones
+      go true = (runs_split h (opposing_of range level s)).zones
       go false = refl
 
   over-zones : (h : ℕ) (ss : List Triple) → map zone_of (partsOver h ss) ≡ zones_from range level h ss
@@ -196,7 +195,7 @@ module _ (range : Triple → Range) (level : List Triple) where
   over-all {P} of h (s ∷ ss) =
       let ms = opposing_of range level s in
       all_append
-      (all-cond (ltb s.last (length level)) (each_all members (parts_of h ms) (subst (All P) (sym (runs_parted h ms).whole) (of s))) nil)
+      (all-cond (ltb s.last (length level)) (each_all members (parts_of h ms) (subst (All P) (sym (runs_split h ms).whole) (of s))) nil)
       (over-all of (suc h) ss)
 
   -- dd ≤ zd ≤ zg ≤ gg, of prices, owners in order or not
@@ -214,7 +213,7 @@ module _ (range : Triple → Range) (level : List Triple) where
   in_parts h s k = rw (lt-ltb s.last (length level) k)
 
   parts-ids : (h : ℕ) (s : Triple) → each ids_of (parts_of h (opposing_of range level s)) ≡ map index (opposing_of range level s)
-  parts-ids h s = rw (ids_each (parts_of h (opposing_of range level s)), (runs_parted h (opposing_of range level s)).whole)
+  parts-ids h s = rw (ids_each (parts_of h (opposing_of range level s)), (runs_split h (opposing_of range level s)).whole)
 
   -- a part of an owner is among those of all
   part-over :
@@ -246,23 +245,23 @@ module _ (range : Triple → Range) (level : List Triple) where
 
   module _ (owners : List Triple) where
     -- the members of a zone are opposing records of its owner, owners in order or not
-    pub members_oppose : (z : Zone) (j : ℕ) → Memᴰ j (members_in range level owners z) → Opposes level owners z.owner_idx j
+    pub members_oppose : (z : Zone) (j : ℕ) → Memᴰ j (members_in range level owners z) → Opposes level owners z.sup_idx j
     unfolding members_in
-    members_oppose z j i = go (get_elem? owners z.owner_idx) refl i
+    members_oppose z j i = go (get_elem? owners z.sup_idx) refl i
       where
         go :
-            (o : Option Triple) → get_elem? owners z.owner_idx ≡ o
+            (o : Option Triple) → get_elem? owners z.sup_idx ≡ o
             → Memᴰ j
             (elim o as (λ x. List ℕ) [
               | none ↦ []
               | some s ↦ take z.members (keep (λ (i : ℕ). leb z.first_member i) (map index (opposing_of range level s)))
             ])
-            → Opposes level owners z.owner_idx j
+            → Opposes level owners z.sup_idx j
         go none e m = absurd (Memᴰ.not-nil m)
         go (some s) e m =
             let from : ℕ → Bool = λ (i : ℕ). leb z.first_member i in
             let ids = map index (opposing_of range level s) in
-            in-opposes range level owners z.owner_idx j s e (in-keep from j ids (in_take z.members j (keep from ids) m))
+            in-opposes range level owners z.sup_idx j s e (in-keep from j ids (in_take z.members j (keep from ids) m))
 
     -- the members of its zone are those of the part
     abbrev Known : Part → Type 0
@@ -282,7 +281,7 @@ module _ (range : Triple → Range) (level : List Triple) where
         let here : get_elem? owners h ≡ some s = rw add-zero at (f 0) in
         let took = taken s.first (s.first + length (within level s)) (map index ms) [] ps (owner-between range level s) (sym (parts-ids h s)) in
         all_append {xs = parts_in h s}
-        (all-cond (ltb s.last (length level)) (all_both (λ r k t. known h s r here k t) (runs_parted h ms).owners took) nil)
+        (all-cond (ltb s.last (length level)) (all_both (λ r k t. known h s r here k t) (runs_split h ms).owners took) nil)
         (over-known (suc h) ss next-owner)
       where
         next-owner : (i : ℕ) → get_elem? owners (suc h + i) ≡ get_elem? ss i
@@ -336,7 +335,7 @@ module _ (range : Triple → Range) (level : List Triple) where
           let t = in-each ids_of ps j (rw (parts-ids h s) i) in
           let local : get_elem? (parts_in (0 + h) s) t.0 ≡ some t.1 = rw (zero-add, in_parts h s below) t.2 in
           let n = part-over 0 h owners s t.0 t.1 e local in
-          (n.0, record { part = t.1; part_at = n.1; member = t.3 }, all-at t.0 t.1 (runs_parted h (opposing_of range level s)).owners t.2)
+          (n.0, record { part = t.1; part_at = n.1; member = t.3 }, all-at t.0 t.1 (runs_split h (opposing_of range level s)).owners t.2)
 
       -- where no range is missing, each opposing record is a member of exactly one zone, one of its owner
       pub level-one :
@@ -360,17 +359,4 @@ module _ (range : Triple → Range) (level : List Triple) where
                 λ (n : ℕ) (m : MemberAt (zones_from range level 0 owners) (members_in range level owners) j n).
                 one_part 0 (length level) j (partsOver 0 owners) parts-rise n t.0 (member-part j n m) a;
             once = rw k (part_once 0 (length level) j (partsOver 0 owners) parts-rise t.0 a.part a.part_at);
-          }
-
-      -- all that is claimed of zones, where no range is missing and ranges are of prices
-      pub level-covered :
-          ((i : ℕ) (t : Triple) → get_elem? level i ≡ some t → (s : Span) × (range t ≡ Found s)) → ((t : Triple) → GoodRange (range t))
-          → Covered range level owners (members_in range level owners) (zones_from range level 0 owners)
-      level-covered all good =
-          record {
-            one_zone = level-one all;
-            members_are = λ z m. all_in level-members m;
-            members_oppose = λ z m. members_oppose z;
-            edges = λ z m. edges z (all_in (level-bounded good 0 owners) m);
-            extremes = λ z m. all_in (level-extremes good) m;
           }

@@ -3,7 +3,6 @@ pub mod Lists
 pub mod Ordered
 pub mod Triples
 pub mod Runs
-pub mod Owned
 pub mod Extremes
 pub mod Bounds
 pub mod Rising
@@ -11,7 +10,7 @@ pub mod Ranges
 pub mod Opposing
 pub mod Layer
 pub mod Zones
-pub mod Lower
+pub mod Owned
 pub mod Derived
 pub mod Kept
 pub mod Whole

@@ -1,29 +1,24 @@
--- The plain machine keeps its levels in order and counts the accepted calls. A live chart whose counts fit, whose levels are in order and that
--- keeps the overlap rule's zones at both levels is never refused with 21, so it answers as the machine does; and only such a chart is not.
--- Assumes nothing.
+-- The plain machine keeps its levels in order and counts the accepted calls. A live chart whose counts fit, whose levels are in order and
+-- that keeps the overlap rule's zones is never refused with 21, so it answers as the machine does; and only such a chart is not. Assumes nothing.
 use Prim.Native.Nat.{ℕ, suc, ◌+◌, ◌≤◌, min}
 use mathlib.Core.Path.{◌≡◌, refl}
 use mathlib.Core.Bool.{Bool, true, false, cond, not, ◌||◌}
 use mathlib.Core.List.{List, [], ◌∷◌}
 use native.Mathlib.Omega.{arith}
-use lib.ListN.{take}
+use lib.ListN.{length}
 use lib.Dec.{eqb, ltb}
 use borrow.Author.Tests.{eqb-true, ltb-false, le-ltb, not-false}
 use Rattle.price.proofs.Order.{price-fits}
-use Rattle.chart.specs.declared.Zone.{Zone}
 use Rattle.rules.specs.Lists.{count}
 use Rattle.rules.specs.Records.{Levels, levels_of}
-use Rattle.rules.specs.Zones.{overlap_zones, lower_zones_of}
-use Rattle.rules.specs.Refusals.{refuse, overfull, bad_levels, bad_chart, broken_strokes, broken_triples, broken_levels, same_zones}
-use Rattle.rules.specs.Refusals.{other_zones, LiveData, kept_zones, kept_lower, bad_live}
-use Rattle.rules.specs.Machine.{Call, Machine, empty, refusal, stepped, count_up, step, run, answers}
+use Rattle.rules.specs.Zones.{overlap_zones}
+use Rattle.rules.specs.Refusals.{refuse, overfull, bad_levels, bad_chart, broken_strokes, broken_triples, broken_levels, same_zones, LiveData, kept_zones, bad_live}
+use Rattle.rules.specs.Machine.{Call, Machine, empty, zones, refusal, stepped, count_up, step, run, answers}
 use Rattle.rules.specs.Live.{live_refusal}
 use Rattle.laws.proofs.Tests.{or_i, or_l, or_r, none_of_four, pick_cond}
 use Rattle.laws.proofs.Ordered.{InOrder, chart_fit, in_order, not-bad, not-broken}
-use Rattle.laws.proofs.Lists.{All, all_map}
-use Rattle.laws.proofs.Bounds.{Bounded}
-use Rattle.laws.proofs.Zones.{zones-bounded}
-use Rattle.laws.proofs.Lower.{lower-bounded}
+use Rattle.laws.proofs.Lists.{all_map}
+use Rattle.laws.proofs.Zones.{zones-bounded, zones_256}
 use Rattle.laws.proofs.Kept.{kept}
 use Rattle.laws.proofs.SameData.{HeldZones, same-zones, same_zones_true}
 
@@ -54,6 +49,14 @@ empty_ordered =
 pub run_ordered : (ks : List Call) → InOrder (run empty ks).levels
 run_ordered ks = run-from empty ks empty_ordered
 
+-- its zones have places
+pub run-zones : (ks : List Call) → length (zones (run empty ks)) ≤ 256
+unfolding zones
+run-zones ks =
+    let c = (run empty ks).levels in
+    let o = run_ordered ks in
+    zones_256 c (not-broken c o) o.bigs.fit
+
 -- ---- the count
 
 -- how many answers are 0
@@ -80,8 +83,8 @@ count_is ks = let e = count_from empty ks (omega arith) in omega arith
 
 -- ---- a live chart that is not refused with 21
 
-bounded_held : {zs : List Zone} → All Bounded zs → HeldZones zs
-bounded_held h =
+zones-held : (c : Levels) → bad_levels c ≡ false → HeldZones (overlap_zones c)
+zones-held c h =
     all_map
     (λ z b.
     record {
@@ -90,28 +93,13 @@ bounded_held h =
       dd_held = price-fits z.dd b.dd_price;
       gg_held = price-fits z.gg b.gg_price;
     })
-    h
-
--- kept zones that are those of a rule
-record Keeps (zones : List Zone) (n : ℕ) (rule : List Zone) : Type 0 where
-  few : n ≤ 256
-  same : same_zones (take n zones) rule ≡ true
-
-keeps : (zones : List Zone) (n : ℕ) (rule : List Zone) → other_zones zones n rule ≡ false → Keeps zones n rule
-unfolding other_zones
-keeps zones n rule h =
-    let s = same_zones (take n zones) rule in
-    record { few = ltb-false 256 n (or_l (ltb 256 n) (not s) h); same = not-false s (or_r (ltb 256 n) (not s) h) }
-
-not-other : (zones : List Zone) (n : ℕ) (rule : List Zone) → n ≤ 256 → take n zones ≡ rule → other_zones zones n rule ≡ false
-unfolding other_zones
-not-other zones n rule k e = simp (le-ltb 256 n k, e, same-zones)
+    (zones-bounded c h)
 
 record Sound (b : LiveData) : Type 0 where
   room : overfull b.chart ≡ false
   ordered : InOrder (levels_of b.chart)
-  zones : Keeps b.zones b.zone_count (overlap_zones (levels_of b.chart))
-  lower : Keeps b.lower b.lower_count (lower_zones_of (levels_of b.chart))
+  few : b.zone_count ≤ 256
+  same : same_zones (kept_zones b) (overlap_zones (levels_of b.chart)) ≡ true
 
 module _ (b : LiveData) where
   abbrev l : Levels
@@ -123,14 +111,15 @@ module _ (b : LiveData) where
       let b1 = overfull b.chart in
       let b2 = bad_levels l in
       let b3 = broken_levels l in
-      let b4 = other_zones b.zones b.zone_count (overlap_zones l) in
-      let b5 = other_zones b.lower b.lower_count (lower_zones_of l) in
-      let n = none_of_four b1 b2 b3 b4 (or_l (b1 || b2 || b3 || b4) b5 h) in
+      let b4 = ltb 256 b.zone_count in
+      let s = same_zones (kept_zones b) (overlap_zones l) in
+      let h4 = or_l (b1 || b2 || b3 || b4) (not s) h in
+      let n = none_of_four b1 b2 b3 b4 h4 in
       record {
         room = n.0;
         ordered = in_order l (chart_fit b.chart n.0) n.1 n.2;
-        zones = keeps _ _ _ n.3;
-        lower = keeps _ _ _ (or_r (b1 || b2 || b3 || b4) b5 h);
+        few = ltb-false 256 b.zone_count n.3;
+        same = not-false s (or_r (b1 || b2 || b3 || b4) (not s) h);
       }
 
   pub not-21-ordered : bad_live b ≡ false → InOrder l
@@ -144,23 +133,15 @@ module _ (b : LiveData) where
   pub kept-are : HeldZones (kept_zones b) → bad_live b ≡ false → kept_zones b ≡ overlap_zones l
   kept-are p h =
       let s = sound h in
-      same_zones_true (kept_zones b) (overlap_zones l) p (bounded_held (zones-bounded l (not-bad l s.ordered))) s.zones.same
-
-  pub kept-lower-are : HeldZones (kept_lower b) → bad_live b ≡ false → kept_lower b ≡ lower_zones_of l
-  kept-lower-are p h =
-      let s = sound h in
-      same_zones_true (kept_lower b) (lower_zones_of l) p (bounded_held (lower-bounded l (not-bad l s.ordered))) s.lower.same
+      same_zones_true (kept_zones b) (overlap_zones l) p (zones-held l (not-bad l s.ordered)) s.same
 
   -- ---- and one that keeps the rule's zones
 
-  module _
-      (f : overfull b.chart ≡ false) (o : InOrder l) (k : b.zone_count ≤ 256) (e : kept_zones b ≡ overlap_zones l) (m : b.lower_count ≤ 256)
-      (w : kept_lower b ≡ lower_zones_of l)
-    where
-      pub never-21 : bad_live b ≡ false
-      unfolding bad_live bad_chart
-      never-21 = simp (f, not-bad l o, not-broken l o, not-other b.zones b.zone_count (overlap_zones l) k e, not-other b.lower b.lower_count (lower_zones_of l) m w)
+  module _ (f : overfull b.chart ≡ false) (o : InOrder l) (k : b.zone_count ≤ 256) (e : kept_zones b ≡ overlap_zones l) where
+    pub never-21 : bad_live b ≡ false
+    unfolding bad_live bad_chart
+    never-21 = simp (f, not-bad l o, not-broken l o, le-ltb 256 b.zone_count k, e, same-zones)
 
-      pub live-is : (call : Call) → live_refusal b call ≡ refusal l call
-      unfolding live_refusal refuse
-      live-is call = rw never-21
+    pub live-is : (call : Call) → live_refusal b call ≡ refusal l call
+    unfolding live_refusal refuse
+    live-is call = rw never-21

@@ -42,7 +42,7 @@ right_priced s h =
 pub stroke-priced : (c : Levels) → bad_levels c ≡ false → (i : ℕ) (s : Stroke) → get_elem? c.strokes i ≡ some s → Priced s
 stroke-priced c h i s e = right_priced s (any_at wrong_stroke c.strokes i s (strokes-right c h) e)
 
-pub spanned-good :
+spanned-good :
     (o q : Option Stroke) → ((s : Stroke) → o ≡ some s → Priced s) → ((s : Stroke) → q ≡ some s → Priced s) → GoodRange (spanned o q)
 unfolding spanned
 spanned-good none q f g = tt
@@ -74,7 +74,7 @@ range_good c h b =
 
 -- ---- order
 
-pub spanned-found : (o q : Option Stroke) (s t : Stroke) → o ≡ some s → q ≡ some t → (r : Span) × (spanned o q ≡ Found r)
+spanned-found : (o q : Option Stroke) (s t : Stroke) → o ≡ some s → q ≡ some t → (r : Span) × (spanned o q ≡ Found r)
 unfolding spanned
 spanned-found none q s t a b = absurd (none-some a)
 spanned-found (some x) none s t a b = absurd (none-some b)

@@ -129,7 +129,7 @@ module _ (P : ℕ → Type 0) where
       pub bars-all : (zs : List Zone) (i : ℕ) → All P (scanned_bars c zs i)
       unfolding scanned_bars
       bars-all zs i =
-          let own = keep (λ (z : Zone). eqb z.owner_idx i) zs in
+          let own = keep (λ (z : Zone). eqb z.sup_idx i) zs in
           inserts-all [] (each (scanned c zs) own) nil (all-each (scanned c zs) (all_of (scanned-all zs) own))
 
       anchor-bars-all : (buy : Bool) (a : Stroke) → All P (anchor_bars c buy a)

@@ -14,12 +14,79 @@ use borrow.Author.Tests.{ne_eqb}
 use Rattle.chart.specs.declared.Zone.{Zone}
 use Rattle.price.specs.Price.{lower, higher}
 use Rattle.rules.specs.Lists.{each}
-use Rattle.rules.specs.Zones.{Member, begin, joins, join, cut, runs}
-use Rattle.rules.specs.Split.{Part, members, low, high, low_point, high_point, lowest, highest, edge, zone_of, alone, adds, with, Joined, Together}
-use Rattle.rules.specs.Split.{Follow, Separate, Split}
-use Rattle.laws.proofs.Lists.{All, nil, cons, all_map, all_in, all_there, map-append}
+use Rattle.rules.specs.Zones.{Member, low_bar_of, high_bar_of, begin, joins, join, cut, runs}
+use Rattle.laws.proofs.Lists.{All, nil, cons, map-append}
+
+-- members of one owner that stand together: the first one, and the later ones
+pub record Part : Type 0 where
+  pub owner : ℕ
+  pub first : Member
+  pub later : List Member
+
+abbrev pub members : Part → List Member
+members p = p.first ∷ p.later
+
+abbrev pub low : Member → Float
+low m = m.span.low
+
+abbrev pub high : Member → Float
+high m = m.span.high
+
+-- a price with its bar: a member's low, and its high
+pub record Point : Type 0 where
+  pub price : Float
+  pub bar : ℕ
+
+abbrev pub low_point : Member → Point
+low_point m = record { price = m.span.low; bar = m.span.low_bar }
+
+abbrev pub high_point : Member → Point
+high_point m = record { price = m.span.high; bar = m.span.high_bar }
+
+-- of two, the lower one and the higher one, on equal prices with the smaller bar
+abbrev pub lowest : Point → Point → Point
+lowest a b = record { price = lower a.price b.price; bar = low_bar_of a.price a.bar b.price b.bar }
+
+abbrev pub highest : Point → Point → Point
+highest a b = record { price = higher a.price b.price; bar = high_bar_of a.price a.bar b.price b.bar }
+
+-- the last of some members
+abbrev pub final : Member → List Member → Member
+final = foldl (λ (m n : Member). n)
+
+-- of the first two of some values, or the value that stands alone
+unfoldable pub edge : (Float → Float → Float) → Float → List Float → Float
+edge f a [] = a
+edge f a (b ∷ bs) = f a b
+
+-- The zone of a part. zd is the higher of its first two lows, zg the lower of its first two highs; of one member, its low and high. dd and gg, with
+-- their bars, are the lowest of its lows and the highest of its highs
+unfoldable pub zone_of : Part → Zone
+zone_of p =
+    record {
+      sup_idx = p.owner;
+      start_bar = p.first.span.start_bar;
+      end_bar = (final p.first p.later).span.end_bar;
+      zd = edge higher (low p.first) (map low p.later);
+      zg = edge lower (high p.first) (map high p.later);
+      dd = (foldl lowest (low_point p.first) (map low_point p.later)).price;
+      gg = (foldl highest (high_point p.first) (map high_point p.later)).price;
+      first_member = p.first.index;
+      members = suc (length p.later);
+      dd_bar = (foldl lowest (low_point p.first) (map low_point p.later)).bar;
+      gg_bar = (foldl highest (high_point p.first) (map high_point p.later)).bar;
+    }
 
 -- ---- the parts
+
+abbrev pub alone : ℕ → Member → Part
+alone h m = record { owner = h; first = m; later = [] }
+
+abbrev pub adds : Part → List Member → Part
+adds p ms = record { owner = p.owner; first = p.first; later = p.later ++ ms }
+
+abbrev pub with : Part → Member → Part
+with p m = adds p (m ∷ [])
 
 unfoldable pub parts_from : Part → List Member → List Part
 parts_from p [] = p ∷ []
@@ -80,6 +147,23 @@ module _ (p : Part) (m : Member) (ms : List Member) where
 
 -- ---- the parts are those of the joining rule
 
+-- each of some members joins the zone of the part and of those before it
+abbrev pub Joined : Part → List Member → Type 0
+Joined p [] = Unit {0}
+Joined p (m ∷ ms) = (joins (zone_of p) m.span ≡ true) × Joined (with p m) ms
+
+abbrev pub Together : Part → Type 0
+Together p = Joined (alone p.owner p.first) p.later
+
+-- the first member of each part does not join the zone before it
+abbrev pub Follow : Zone → List Part → Type 0
+Follow z [] = Unit {0}
+Follow z (p ∷ ps) = (joins z p.first.span ≡ false) × Follow (zone_of p) ps
+
+abbrev pub Separate : List Part → Type 0
+Separate [] = Unit {0}
+Separate (p ∷ ps) = Follow (zone_of p) ps
+
 abbrev pub Owned : ℕ → Part → Type 0
 Owned h p = p.owner ≡ h
 
@@ -135,32 +219,21 @@ from_goes p (m ∷ ms) = go (joins (zone_of p) m.span) refl (from_goes (with p m
 
 -- ---- the law
 
--- what `Split` says of some parts, as lists
-pub record Parted (h : ℕ) (ms : List Member) (parts : List Part) : Type 0 where
+-- The members are split into parts, none of them empty. There is one zone a part, in order, and it is the zone of that part.
+-- The later members of a part join it, and the first of the next does not
+pub record Split (h : ℕ) (ms : List Member) (parts : List Part) : Type 0 where
   pub whole : each members parts ≡ ms
   pub zones : map zone_of parts ≡ runs h ms
   pub owners : All (Owned h) parts
   pub together : All Together parts
   pub separate : Separate parts
 
-pub runs_parted : (h : ℕ) (ms : List Member) → Parted h ms (parts_of h ms)
+pub runs_split : (h : ℕ) (ms : List Member) → Split h ms (parts_of h ms)
 unfolding parts_of runs
-runs_parted h [] = record { whole = refl; zones = refl; owners = nil; together = nil; separate = tt }
-runs_parted h (m ∷ ms) =
+runs_split h [] = record { whole = refl; zones = refl; owners = nil; together = nil; separate = tt }
+runs_split h (m ∷ ms) =
     let g = from_goes (alone h m) ms in
     record { whole = g.whole; zones = rw zone-alone g.zones; owners = g.owners; together = g.together tt; separate = g.separate }
-
-pub runs_split : (h : ℕ) (ms : List Member) → Split h ms (runs h ms)
-runs_split h ms =
-    let t = runs_parted h ms in
-    record {
-      parts = parts_of h ms;
-      whole = t.whole;
-      zones = t.zones;
-      owners = λ p m. all_in t.owners m;
-      together = λ p m. all_in t.together m;
-      separate = t.separate;
-    }
 
 -- ---- and no other parts obey it
 
@@ -183,14 +256,10 @@ only-from h p (q ∷ ps) o (cons k s) (cons t u) f =
     ap (λ (r : List Part). p ∷ r) (only-from h q ps k s u f.1 ∙ sym (part-grown p.owner q rest (k ∙ sym o) t))
     ∙ sym (from_next p q.first (q.later ++ rest) f.0)
 
-parts_only : (h : ℕ) (ms : List Member) (zs : List Zone) (s : Split h ms zs) → s.parts ≡ parts_of h ms
+pub split_only : (h : ℕ) (ms : List Member) (parts : List Part) → Split h ms parts → parts ≡ parts_of h ms
 unfolding parts_of
-parts_only h ms zs s =
-    rw (← s.whole) (go s.parts (all_map s.owners (all_there s.parts)) (all_map s.together (all_there s.parts)) s.separate)
+split_only h ms parts s = rw (← s.whole) (go parts s.owners s.together s.separate)
   where
     go : (ps : List Part) → All (Owned h) ps → All Together ps → Separate ps → ps ≡ parts_of h (each members ps)
     go [] o t f = refl
     go (q ∷ ps) (cons k o) (cons t u) f = only-from h q ps k o u f ∙ sym (part-grown h q (each members ps) k t)
-
-pub split_only : (h : ℕ) (ms : List Member) (zs : List Zone) → Split h ms zs → zs ≡ runs h ms
-split_only h ms zs s = sym s.zones ∙ ap (map zone_of) (parts_only h ms zs s) ∙ (runs_parted h ms).zones

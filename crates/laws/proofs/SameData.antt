@@ -38,13 +38,13 @@ agree_same (x ∷ xs) = rw (eq-eqb x x refl) (agree_same xs)
 
 abbrev numbers : Zone → List ℕ
 numbers z =
-    z.owner_idx ∷ z.start_bar ∷ z.end_bar ∷ to_bits binary64 z.zd ∷ to_bits binary64 z.zg ∷ to_bits binary64 z.dd
+    z.sup_idx ∷ z.start_bar ∷ z.end_bar ∷ to_bits binary64 z.zd ∷ to_bits binary64 z.zg ∷ to_bits binary64 z.dd
     ∷ to_bits binary64 z.gg ∷ z.first_member ∷ z.members ∷ z.dd_bar ∷ z.gg_bar ∷ []
 
 abbrev zone_of : List ℕ → Zone
 zone_of ns =
     record {
-      owner_idx = get_or ns 0 0;
+      sup_idx = get_or ns 0 0;
       start_bar = get_or ns 1 0;
       end_bar = get_or ns 2 0;
       zd = of_bits binary64 (get_or ns 3 0);

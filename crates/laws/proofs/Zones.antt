@@ -1,26 +1,22 @@
--- Overlap zones of a chart, which are those of its superiors over its bigs: edges, members, the split into runs, how many. Assumes nothing.
-use Prim.Native.Nat.{ℕ, ◌≤◌, ◌<◌}
+-- Overlap zones of a chart, which are those of its superiors over its bigs: edges, members, how many. Assumes nothing.
+use Prim.Native.Nat.{ℕ, ◌≤◌}
 use native.Mathlib.Omega.{arith}
 use mathlib.Core.Path.{◌≡◌}
 use mathlib.Core.Bool.{false}
 use mathlib.Core.List.{Memᴰ}
-use mathlib.Core.Option.{some}
-use lib.ListN.{length, get_elem?}
+use lib.ListN.{length}
 use borrow.Author.Tests.{le-ltb}
-use Rattle.chart.specs.declared.Triple.{Triple}
 use Rattle.chart.specs.declared.Zone.{Zone}
 use Rattle.rules.specs.Records.{Levels}
 use Rattle.rules.specs.Ranges.{range_of}
-use Rattle.rules.specs.Zones.{opposing_of, overlap_zones, members_of}
-use Rattle.rules.specs.Split.{Split, zones_at}
+use Rattle.rules.specs.Zones.{overlap_zones, members_of}
 use Rattle.rules.specs.Refusals.{refuse, bad_levels, broken_levels, zones_refusal}
-use Rattle.rules.specs.Claims.{Opposes, Edges, Extremes, Covered}
+use Rattle.rules.specs.Claims.{Opposes, OneZone, Edges, Extremes}
 use Rattle.laws.proofs.Lists.{All, all_map}
 use Rattle.laws.proofs.Ordered.{unbroken}
 use Rattle.laws.proofs.Bounds.{Bounded, edges}
 use Rattle.laws.proofs.Ranges.{range_good, range_found}
-use Rattle.laws.proofs.Owned.{level-split}
-use Rattle.laws.proofs.Layer.{level-bounded, members_oppose, level-members, level-extremes, level-covered, level-count}
+use Rattle.laws.proofs.Layer.{level-bounded, members_oppose, level-members, level-extremes, level-one, level-count}
 
 module _ (c : Levels) where
   -- ---- of a loaded chart, in order or not
@@ -33,15 +29,8 @@ module _ (c : Levels) where
   pub zones-edges : bad_levels c ≡ false → All Edges (overlap_zones c)
   zones-edges h = all_map edges (zones-bounded h)
 
-  -- the zones of a superior split its opposing bigs into runs
-  pub zones-split :
-      (h : ℕ) (s : Triple) → get_elem? c.superiors h ≡ some s → s.last < length c.bigs
-      → Split h (opposing_of (range_of c) c.bigs s) (zones_at h (overlap_zones c))
-  unfolding overlap_zones
-  zones-split = level-split (range_of c) c.bigs c.superiors
-
   -- the members of a zone are opposing bigs of its superior
-  pub zone-opposes : (z : Zone) (j : ℕ) → Memᴰ j (members_of c z) → Opposes c.bigs c.superiors z.owner_idx j
+  pub zone-opposes : (z : Zone) (j : ℕ) → Memᴰ j (members_of c z) → Opposes c.bigs c.superiors z.sup_idx j
   unfolding members_of
   zone-opposes = members_oppose (range_of c) c.bigs c.superiors
 
@@ -58,10 +47,10 @@ module _ (c : Levels) where
   -- ---- of levels in order
 
   module _ (order : broken_levels c ≡ false) where
-    -- all that is claimed of zones
-    pub zones-covered : bad_levels c ≡ false → Covered (range_of c) c.bigs c.superiors (members_of c) (overlap_zones c)
+    -- every opposing big of a superior is a member of exactly one zone, one of that superior
+    pub one_zone : (h j : ℕ) → Opposes c.bigs c.superiors h j → OneZone (overlap_zones c) (members_of c) h j
     unfolding overlap_zones members_of
-    zones-covered h = level-covered (range_of c) c.bigs c.superiors (unbroken c order).superiors (range_found c order) (range_good c h)
+    one_zone = level-one (range_of c) c.bigs c.superiors (unbroken c order).superiors (range_found c order)
 
     pub zones-count : length (overlap_zones c) ≤ length c.bigs
     unfolding overlap_zones

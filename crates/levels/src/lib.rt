@@ -1,4 +1,7 @@
 // What every call on a chart begins with, refusal 21 and the ranges of all bigs; and the calls for one big, its range and its end point.
+
+#![tactic(auto)]
+
 ghost use Rattle.std.specs.Prelude.{◌≡◌, true, false, cond, ◌||◌, ◌≤◌, ◌<◌, ltb, take};
 ghost use Rattle.std.proofs.Math.Option.{some};
 ghost use Rattle.rules.specs.Lists.{any};
@@ -129,7 +132,7 @@ pub fn bar_of(beyond: bool, end_bar: u16, start_bar: u16) -> u16
 }
 
 // From the start of one stroke to the end of another.
-pub fn span_of(s: Stroke, e: Stroke) -> Range
+fn span_of(s: Stroke, e: Stroke) -> Range
     ensures { result ≡ spanned (some s) (some e) }
 {
     Range::Found(Span {
@@ -187,7 +190,7 @@ fn range_of(chart: Chart, big: Triple) -> Range
 }
 
 // The range of a big, with the number of the refusal or 0. Beside a refusal it is missing.
-#[derive(Drop)]
+#[derive(Clone, Copy)]
 pub struct BigRange {
     pub number: u8,
     pub range: Range,
@@ -232,7 +235,7 @@ fn end_point_of(chart: Chart, big: u16) -> EndPoint
 }
 
 // The end point of a big, with the number of the refusal or 0. Beside a refusal there is none.
-#[derive(Drop)]
+#[derive(Clone, Copy)]
 pub struct BigEndPoint {
     pub number: u8,
     pub end_point: EndPoint,

@@ -9,13 +9,12 @@ use lib.Dec.{eqb, ltb}
 use borrow.Author.Tests.{le-ltb, ne_eqb}
 use Rattle.rules.specs.Records.{Levels, levels_of}
 use Rattle.rules.specs.Lists.{count}
-use Rattle.rules.specs.Zones.{overlap_zones, lower_zones_of, zones_from}
-use Rattle.rules.specs.Refusals.{overfull, kept_zones, kept_lower, bad_live}
-use Rattle.rules.specs.Machine.{Call, Machine, empty, zones, lower, refusal, stepped, count_up, step, run, answers}
+use Rattle.rules.specs.Zones.{overlap_zones, zones_from}
+use Rattle.rules.specs.Refusals.{overfull, kept_zones, bad_live}
+use Rattle.rules.specs.Machine.{Call, Machine, empty, zones, refusal, stepped, count_up, step, run, answers}
 use Rattle.rules.specs.Live.{View, view, seen, live_refusal, after}
 use Rattle.laws.proofs.Ordered.{InOrder, not-broken}
 use Rattle.laws.proofs.Zones.{zones_256}
-use Rattle.laws.proofs.Lower.{lower_256}
 use Rattle.laws.proofs.Machine.{step_ordered, run_ordered, count_is, never-21, live-is}
 use Rattle.live.specs.declared.Live.{Live}
 use Rattle.live.specs.Did.{data_of, part, TrueCounts, Did, Nothing}
@@ -35,10 +34,6 @@ module _ (m : Machine) (b : Live) (e : part b ≡ seen m) where
   zones-same : kept_zones (data_of b) ≡ zones m
   unfolding part view seen
   zones-same = ap (λ (v : View). v.zones) e
-
-  lower-same : kept_lower (data_of b) ≡ lower m
-  unfolding part view seen
-  lower-same = ap (λ (v : View). v.lower) e
 
   count_same : b.count ≡ m.count
   unfolding part view seen
@@ -73,19 +68,12 @@ module _ (m : Machine) (b : Live) (a : Agrees m b) where
   few-here : b.zone_count ≤ 256
   few-here = omega (arith, zones_256 l (not-broken l ordered-here) ordered-here.bigs.fit, ap length zones-here, a.told.zones)
 
-  lower-here : kept_lower (data_of b) ≡ lower_zones_of l
-  unfolding lower
-  lower-here = lower-same m b a.same ∙ ap lower_zones_of (sym (levels-same m b a.same))
-
-  few-lower : b.lower_count ≤ 256
-  few-lower = omega (arith, lower_256 l (not-broken l ordered-here) ordered-here.segments.fit, ap length lower-here, a.told.lower)
-
   not-21 : bad_live (data_of b) ≡ false
-  not-21 = never-21 (data_of b) (fits b a.told ordered-here) ordered-here few-here zones-here few-lower lower-here
+  not-21 = never-21 (data_of b) (fits b a.told ordered-here) ordered-here few-here zones-here
 
   answer-is : (k : Call) → live_refusal (data_of b) k ≡ refusal m.levels k
   answer-is k =
-      live-is (data_of b) (fits b a.told ordered-here) ordered-here few-here zones-here few-lower lower-here k
+      live-is (data_of b) (fits b a.told ordered-here) ordered-here few-here zones-here k
       ∙ ap (λ (c : Levels). refusal c k) (levels-same m b a.same)
 
 -- ---- one call
@@ -103,7 +91,7 @@ step_no m k n e = rw (e, ne_eqb (suc n) 0 (λ (h : suc n ≡ 0). omega arith))
 
 -- what an accepted call leaves is what the machine then shows
 seen-after : (m : Machine) (k : Call) → after (seen m) k ≡ seen (moved m k)
-unfolding after seen zones lower
+unfolding after seen zones
 seen-after m k = refl
 
 after_call : (m : Machine) (b d : Live) (k : Call) (n : ℕ) → Agrees m b → Did b k n d → Agrees (step m k) d
@@ -141,7 +129,7 @@ true-none : {A : Type 0} (n : ℕ) (xs : List A) → n ≡ 0 → length (take n 
 true-none n xs e = rw e
 
 from_nothing : (b : Live) → Nothing b → Agrees empty b
-unfolding part view seen zones lower levels_of empty overlap_zones lower_zones_of zones_from run
+unfolding part view seen zones levels_of empty overlap_zones zones_from run
 from_nothing b h =
     let c = b.chart in
     record {
@@ -152,7 +140,6 @@ from_nothing b h =
             nothing-cut c.big_count c.bigs h.bigs,
             nothing-cut c.superior_count c.superiors h.superiors,
             nothing-cut b.zone_count b.zones h.zones,
-            nothing-cut b.lower_count b.lower_zones h.lower,
             h.count,
           );
       told =
@@ -162,7 +149,6 @@ from_nothing b h =
             bigs = true-none c.big_count c.bigs h.bigs;
             superiors = true-none c.superior_count c.superiors h.superiors;
             zones = true-none b.zone_count b.zones h.zones;
-            lower = true-none b.lower_count b.lower_zones h.lower;
           };
       ordered = run_ordered [];
     }
@@ -180,7 +166,7 @@ sequence b d ks ns h t =
       true_counts = a.told;
     }
 
--- ---- the equation's four parts
+-- ---- the equation's three parts
 
 module _ (ks : List Call) (ns : List ℕ) (d : Live) (a : AsMachine ks ns d) where
   pub levels-are : levels_of d.chart ≡ (run empty ks).levels
@@ -188,9 +174,6 @@ module _ (ks : List Call) (ns : List ℕ) (d : Live) (a : AsMachine ks ns d) whe
 
   pub zones_are : kept_zones (data_of d) ≡ zones (run empty ks)
   zones_are = zones-same (run empty ks) d a.part_is
-
-  pub lower-are : kept_lower (data_of d) ≡ lower (run empty ks)
-  lower-are = lower-same (run empty ks) d a.part_is
 
   pub count-is-run : d.count ≡ (run empty ks).count
   count-is-run = count_same (run empty ks) d a.part_is

@@ -7,10 +7,10 @@ use mathlib.Core.List.{List}
 use lib.Seq.{length-take-le}
 use Rattle.chart.specs.declared.Chart.{Chart}
 use Rattle.chart.specs.declared.Zone.{Zone}
-use Rattle.rules.specs.Answer.{answered, rows_answer}
+use Rattle.rules.specs.Answer.{rows_answer}
 use Rattle.rules.specs.Records.{levels_of}
-use Rattle.rules.specs.Zones.{overlap_zones, lower_zones_of}
-use Rattle.rules.specs.Refusals.{refuse, LiveData, overfull, bad_levels, bad_chart, bad_live, zones_refusal, lower_refusal}
+use Rattle.rules.specs.Zones.{overlap_zones}
+use Rattle.rules.specs.Refusals.{refuse, LiveData, overfull, bad_levels, bad_chart, bad_live, zones_refusal}
 use Rattle.rules.specs.Calls.{zones_call}
 use Rattle.rules.specs.Machine.{Call, refusal, count_up}
 use Rattle.rules.specs.Live.{view, live_refusal, after}
@@ -18,10 +18,9 @@ use Rattle.laws.proofs.Tests.{or_i, or_l, or_r, refuse_no, refuse-on}
 use Rattle.laws.proofs.Arrays.{Sized}
 use Rattle.laws.proofs.Ordered.{InOrder, chart_fit, in_order, not-bad, not-broken}
 use Rattle.laws.proofs.Zones.{never-11}
-use Rattle.laws.proofs.Lower.{never-11-lower}
 use Rattle.laws.proofs.Kept.{kept}
 use Rattle.laws.proofs.Machine.{not-21-ordered, not-21-good}
-use Rattle.laws.proofs.Answers.{rows-number, rows-given, counted, call-number, call_rows}
+use Rattle.laws.proofs.Answers.{counted, call-number, call_rows}
 use Rattle.laws.proofs.Levels.{stroke, above, segment, big, superior, as_long}
 use Rattle.live.specs.declared.Live.{Live}
 use Rattle.live.specs.Did.{data_of, part, Did}
@@ -86,43 +85,27 @@ module _ (c : Chart) (k : Call) (a : Accepts c k) where
     no-11 : zones_refusal (levels_of r) ≡ 0
     no-11 = never-11 (levels_of r) (not-broken (levels_of r) kept-order) kept-order.bigs.fit
 
-    no-11-lower : lower_refusal (levels_of r) ≡ 0
-    no-11-lower = never-11-lower (levels_of r) (not-broken (levels_of r) kept-order) kept-order.segments.fit
-
--- the records that an accepted call makes are not refused with 21
-pub ready : (b : LiveData) (k : Call) (r : Chart) → live_refusal b k ≡ 0 → Steps b.chart k r → bad_chart r ≡ false
-ready b k r e s = still-good b.chart k (accepts b k e) r s
-
 -- ---- the zones afresh
 
-module _
-    (b : Live) (c : Chart) (z : Sized c) (number count : ℕ) (rows : List Zone) (e : rows_answer number count rows ≡ zones_call c)
-    (number' count' : ℕ) (rows' : List Zone) (e' : rows_answer number' count' rows' ≡ answered (lower_refusal (levels_of c)) (lower_zones_of (levels_of c)))
-  where
-    pub renews :
-        Renews b c
-        (record { chart = c; zones = rows; lower_zones = rows'; zone_count = count; lower_count = count'; count = count_up b.count })
-    unfolding part view after zones_call
-    renews k zero s =
-        let a = accepts (data_of b) k zero in
-        let good = still-good b.chart k a c s in
-        let none = call-number c zones_refusal overlap_zones number count rows e good ∙ no-11 b.chart k a c s in
-        let r = call_rows c zones_refusal overlap_zones number count rows e none in
-        let none' = rows-number count' rows' _ (lower_zones_of (levels_of c)) number' e' ∙ no-11-lower b.chart k a c s in
-        let r' = rows-given count' rows' _ (lower_zones_of (levels_of c)) (rw none' at e') in
-        let n = counted c good in
-        record {
-          number = sym zero;
-          same = λ f. absurd (f refl);
-          stepped = λ g. rw (r.same, r'.same, s.levels);
-          told =
-              λ g.
-              record {
-                strokes = as_long c z n stroke;
-                segments = as_long c z n (above segment);
-                bigs = as_long c z n (above big);
-                superiors = as_long c z n (above superior);
-                zones = length-take-le count rows r.few;
-                lower = length-take-le count' rows' r'.few;
-              };
-        }
+module _ (b : Live) (c : Chart) (number count : ℕ) (rows : List Zone) (z : Sized c) (e : rows_answer number count rows ≡ zones_call c) where
+  pub renews : Renews b c (record { chart = c; zones = rows; zone_count = count; count = count_up b.count })
+  unfolding part view after zones_call
+  renews k zero s =
+      let good = still-good b.chart k (accepts (data_of b) k zero) c s in
+      let none = call-number c zones_refusal overlap_zones number count rows e good ∙ no-11 b.chart k (accepts (data_of b) k zero) c s in
+      let r = call_rows c zones_refusal overlap_zones number count rows e none in
+      let n = counted c good in
+      record {
+        number = sym zero;
+        same = λ f. absurd (f refl);
+        stepped = λ g. rw (r.same, s.levels);
+        told =
+            λ g.
+            record {
+              strokes = as_long c z n stroke;
+              segments = as_long c z n (above segment);
+              bigs = as_long c z n (above big);
+              superiors = as_long c z n (above superior);
+              zones = length-take-le count rows r.few;
+            };
+      }

@@ -8,10 +8,9 @@ use Rattle.live.specs.declared.Live.{Live}
 
 -- what 21 of a call on a live chart looks at
 abbrev pub data_of : Live → LiveData
-data_of b =
-    record { chart = b.chart; zones = b.zones; zone_count = b.zone_count; lower = b.lower_zones; lower_count = b.lower_count }
+data_of b = record { chart = b.chart; zones = b.zones; zone_count = b.zone_count }
 
--- the part of a live chart that counts: its levels, the zones that it keeps at both levels, its count of accepted calls
+-- the part of a live chart that counts: its levels, the zones that it keeps, its count of accepted calls
 unfoldable pub part : Live → View
 part b = view (data_of b) b.count
 
@@ -22,7 +21,6 @@ pub record TrueCounts (b : Live) : Type 0 where
   pub bigs : length (take b.chart.big_count b.chart.bigs) ≡ b.chart.big_count
   pub superiors : length (take b.chart.superior_count b.chart.superiors) ≡ b.chart.superior_count
   pub zones : length (take b.zone_count b.zones) ≡ b.zone_count
-  pub lower : length (take b.lower_count b.lower_zones) ≡ b.lower_count
 
 -- A call k on the chart b is answered with n, 21 first, then the call's own number, 0 where it is accepted, and hands back d. A refused one
 -- hands back the very chart; an accepted one steps the part that counts, and the counts that it hands back are true
@@ -39,5 +37,4 @@ pub record Nothing (b : Live) : Type 0 where
   pub bigs : b.chart.big_count ≡ 0
   pub superiors : b.chart.superior_count ≡ 0
   pub zones : b.zone_count ≡ 0
-  pub lower : b.lower_count ≡ 0
   pub count : b.count ≡ 0

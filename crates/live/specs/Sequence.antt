@@ -12,7 +12,7 @@ pub data Chain : Live → List Call → List ℕ → Live → Type 0 where
   done : {b : Live} → Chain b [] [] b
   next : {b c d : Live} {k : Call} {ks : List Call} {n : ℕ} {ns : List ℕ} → Did b k n c → Chain c ks ns d → Chain b (k ∷ ks) (n ∷ ns) d
 
--- The answers, records, count and zones, at both levels, are those of the machine, which has no 21 and no 11
+-- The answers, records, count and zones are those of the machine, which has no 21 and no 11
 pub record AsMachine (ks : List Call) (ns : List ℕ) (d : Live) : Type 0 where
   pub answers_are : ns ≡ answers empty ks
   pub part_is : part d ≡ seen (run empty ks)

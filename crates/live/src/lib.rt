@@ -1,21 +1,21 @@
-// The live chart: built call by call, it keeps its overlap zones and its lower zones, and counts the accepted calls.
-ghost use Rattle.std.specs.Prelude.{◌≡◌, false, map, ◌≤◌, take};
-ghost use Rattle.rules.specs.Refusals.{refuse, bad_chart, bad_live};
+// The live chart: built call by call, it keeps its overlap zones and counts the accepted calls.
+
+#![tactic(auto)]
+
+ghost use Rattle.std.specs.Prelude.{◌≡◌, map, ◌≤◌, take};
+ghost use Rattle.rules.specs.Refusals.{refuse, bad_live};
 ghost use Rattle.rules.specs.Machine.{add_stroke, add_segment, add_big, add_superior, lengthen, withdraw, derive_bigs, derive_superiors, call_of, as_triple, count_up};
 ghost use Rattle.live.specs.Did.{data_of, Nothing, Did};
 ghost use Rattle.live.specs.Steps.{Accepts, Steps, Renews};
 
 use chart::{Call, Chart, Class, NO_STROKE, NO_TRIPLE, NO_ZONE, Stroke, Triple, Zone};
 
-// A chart that calls build. It keeps the first `zone_count` zones and the first `lower_count` lower ones, and counts accepted calls; what lies behind a
-// count is not part of it. The arrays stand first: a number between them would make each copy slower.
-#[derive(Drop)]
+// A chart that calls build. It keeps the first `zone_count` zones, and counts accepted calls; what lies behind a count is not part of it.
+#[derive(Clone, Copy)]
 pub struct Live {
     pub chart: Chart,
     pub zones: [Zone; 256],
-    pub lower_zones: [Zone; 256],
     pub zone_count: u16,
-    pub lower_count: u16,
     pub count: u32,
 }
 
@@ -36,9 +36,7 @@ pub fn new() -> Live
     Live {
         chart,
         zones: [NO_ZONE; 256],
-        lower_zones: [NO_ZONE; 256],
         zone_count: 0,
-        lower_count: 0,
         count: 0,
     }
 }
@@ -104,7 +102,7 @@ fn count_up(n: u32) -> u32
 // ---- the calls
 
 // What a call hands back: the chart, and the number of its answer, 0 where it is accepted.
-#[derive(Drop)]
+#[derive(Clone, Copy)]
 pub struct Answered {
     pub chart: Live,
     pub number: u8,
@@ -117,28 +115,22 @@ impl Live {
     {
         let chart = self.chart;
         let zones = self.zones;
-        let lower = self.lower_zones;
-        if kept::bad_live(chart, zones, self.zone_count, lower, self.lower_count) {
+        if kept::bad_live(chart, zones, self.zone_count) {
             21
         } else {
             0
         }
     }
 
-    // The live chart with new records: the zones of both levels afresh, one more in the count, and all else as it was.
+    // The live chart with new records: the zones afresh, one more in the count, and all else as it was.
     fn renewed(mut self, chart: Chart) -> Live
-        requires { bad_chart chart ≡ false }
         ensures { Renews self chart result }
     {
         let found = zones::detect_bigseg_zhongshus_by_overlap(chart);
         let rows = found.rows;
-        let below = lower_zones::lower_rows(chart);
-        let lower = below.rows;
         self.chart = chart;
         self.zones = rows;
         self.zone_count = found.count;
-        self.lower_zones = lower;
-        self.lower_count = below.count;
         self.count = count_up(self.count);
         self
     }

@@ -1,6 +1,9 @@
 // Makes one call of a live chart many times, for the script oracle/timing to time, and prints a sum of the answers. Arguments: the call and how many
 // times it is made. Calls: build (all records of the chart in `chart.dat`, each by its call), and, on the chart so built, accepted and
 // refused. Of this program only safety is proved.
+
+#![tactic(auto)]
+
 ghost use Rattle.std.specs.Prelude.{◌<◌};
 
 use chart::{Chart, Stroke, Triple};

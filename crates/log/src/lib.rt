@@ -1,4 +1,7 @@
 // Reading a log of calls on a live chart and of bars: each entry, and whether every entry of a log is good.
+
+#![tactic(auto)]
+
 ghost use Rattle.std.specs.Prelude.{◌≡◌, ◌≤◌, ◌<◌, length};
 ghost use Rattle.std.proofs.Math.Option.{none};
 ghost use Rattle.log.specs.Log.{form_of, spelled};
@@ -7,7 +10,7 @@ ghost use Rattle.log.specs.Entries.{entry_of, place_of, bad_at, width_by, entry_
 use chart::Call;
 
 // An entry that a log spells: a call, or a bar with its high, then its low.
-#[derive(Drop)]
+#[derive(Clone, Copy)]
 pub enum LogEntry {
     Call(Call),
     Bar(f64, f64),
@@ -15,7 +18,7 @@ pub enum LogEntry {
 }
 
 // An entry, the place behind it, and how many bars there are up to there.
-#[derive(Drop)]
+#[derive(Clone, Copy)]
 pub struct Next {
     pub entry: LogEntry,
     pub next: usize,
@@ -23,7 +26,7 @@ pub struct Next {
 }
 
 // Where a log has its first bad entry.
-#[derive(Drop)]
+#[derive(Clone, Copy)]
 pub enum Place {
     At(usize),
     Nowhere,

@@ -1,4 +1,7 @@
 // Zones one level lower: those of the bigs over their segments, by the overlap rule that serves every level.
+
+#![tactic(auto)]
+
 ghost use Rattle.std.specs.Prelude.{◌≡◌, false, ◌≤◌, length, take};
 ghost use Rattle.rules.specs.Answer.{answered, rows_answer};
 ghost use Rattle.rules.specs.Records.{levels_of};

@@ -1,5 +1,8 @@
 // The 3+N rows of the anchors: each anchor numbers its hits 0, 1, .., up to the end of the first superior of the other direction. Bigs and
 // superiors are lent as tables; a limit of 65,536 is none.
+
+#![tactic(auto)]
+
 ghost use mathlib.Core.List.{Memᴰ};
 ghost use Rattle.std.specs.Prelude.{◌≤◌, ◌<◌, length, take};
 ghost use Rattle.rules.specs.Records.{Levels};
@@ -77,7 +80,7 @@ fn hit_row(
 
 // What the hits of an anchor are looked for by: the number of bigs, the side, the anchor's end bar, a place before which no big ends behind
 // that, the price C, and the limit.
-#[derive(Drop)]
+#[derive(Clone, Copy)]
 struct AnchorHits {
     bigs: usize,
     from: usize,

@@ -1,4 +1,7 @@
 // Hits, the ends of bigs, and the anchors with their prices C: what third and 3+N marks have in common beside the scan of a zone's pairs.
+
+#![tactic(auto)]
+
 ghost use Rattle.std.specs.Prelude.{◌≡◌, not, cond, [], ◌∷◌, ◌≤◌, ◌<◌, get_or, ltb};
 ghost use Rattle.std.specs.Bool.{beq};
 ghost use Rattle.std.specs.Float.Ieee.{lt};
@@ -16,7 +19,7 @@ use tables::Counts;
 // ---- lent prices
 
 // The lent price of a side at a bar, where the bar is inside the slice.
-#[derive(Drop)]
+#[derive(Clone, Copy)]
 pub enum Quote {
     At(f64),
     Outside,
@@ -57,7 +60,7 @@ pub fn quotes_refusal(highs: &[f64], lows: &[f64]) -> u8
 // ---- hits
 
 // A hit: its bar, and the lent price there.
-#[derive(Drop)]
+#[derive(Clone, Copy)]
 pub enum Hit {
     At(usize, f64),
     Nothing,
@@ -100,7 +103,7 @@ pub fn is_hit(hit: Hit) -> bool
 // ---- ends of bigs
 
 // The next big of a direction that ends behind a bar: the place behind it, its end bar and its end price.
-#[derive(Drop)]
+#[derive(Clone, Copy)]
 pub enum End {
     At(usize, u16, f64),
     Over,
@@ -184,7 +187,7 @@ fn first_behind(
 // ---- anchors
 
 // The anchors' side: how many bigs there are, how many of the first are looked at for anchors, and whether their marks are buys.
-#[derive(Drop)]
+#[derive(Clone, Copy)]
 pub struct Side {
     pub bigs: usize,
     pub anchors: usize,
@@ -211,14 +214,14 @@ pub fn side_of(sups: &[[u16; 5]; 256], counts: Counts) -> Side
 }
 
 // The price C of an anchor, where there is one.
-#[derive(Drop)]
+#[derive(Clone, Copy)]
 pub enum Price {
     At(f64),
     Nowhere,
 }
 
 // An anchor: its end bar, a place before which no big ends behind that, and its price C.
-#[derive(Drop)]
+#[derive(Clone, Copy)]
 pub struct Anchor {
     pub bar: u16,
     pub from: usize,

@@ -1,5 +1,8 @@
 // Rows of 3+N marks while they are gathered. A mark's price is always the lent one of its side at its bar, so a row is kept as two numbers,
 // its key and its order, in the first places of two lent columns.
+
+#![tactic(auto)]
+
 ghost use Rattle.std.specs.Prelude.{◌≡◌, cond, ℕ, ◌+◌, ◌≤◌, ◌<◌, length, get_or, take, drop, eqb, ltb};
 ghost use mathlib.Core.List.{List, ◌∷◌, ◌++◌, Memᴰ};
 ghost use Rattle.rules.specs.Answer.{rows_answer, given};
@@ -90,7 +93,7 @@ fn place_near(keys: &[u32], n: usize, key: u32, near: usize) -> usize
 }
 
 // What the rows are after one was pushed: how many, and the place of that one.
-#[derive(Drop)]
+#[derive(Clone, Copy)]
 pub struct Pushed {
     pub count: usize,
     pub place: usize,
@@ -167,7 +170,7 @@ fn put_in(bars: &mut [u32], at: usize, n: usize, bar: u32)
 }
 
 // What the bars are after one was put in: how many, and the place behind that one.
-#[derive(Drop)]
+#[derive(Clone, Copy)]
 pub struct Inserted {
     pub count: usize,
     pub next: usize,
@@ -198,7 +201,7 @@ pub fn insert_bar(bars: &mut [u32], n: usize, from: usize, bar: u32) -> Inserted
 
 // What the numbering of a superior's bars has come to: the order of the next mark, 0 as long as no order-0 mark was met, and how many rows
 // there are.
-#[derive(Drop)]
+#[derive(Clone, Copy)]
 struct Numbered {
     next: u32,
     count: usize,
@@ -265,7 +268,7 @@ pub fn number_bars(
 // ---- rows given out
 
 // The answer of the 3+N call: a number, and where it is 0 the first `count` rows.
-#[derive(Drop)]
+#[derive(Clone, Copy)]
 pub struct NRows {
     pub rows: [NMark; 512],
     pub number: u8,

@@ -50,8 +50,8 @@ module _
         there : get_or (overlap_zones c) at no_zone ≡ z
         there = at-getD (overlap_zones c) at no_zone z here
 
-        own : z.owner_idx ≡ owner
-        own = sym (owned ∙ owner_of (overlap_zones c) n.zones zb zp t.zones at inside ∙ ap (λ (y : Zone). y.owner_idx) there)
+        own : z.sup_idx ≡ owner
+        own = sym (owned ∙ owner_of (overlap_zones c) n.zones zb zp t.zones at inside ∙ ap (λ (y : Zone). y.sup_idx) there)
 
         end : z.end_bar ≡ get_or (get_or zb at []) 2 0
         end = sym (end_of (overlap_zones c) n.zones zb zp t.zones at inside ∙ ap (λ (y : Zone). y.end_bar) there)
@@ -147,5 +147,5 @@ pub tables_owners :
 tables_owners c n bars prices sups zb zp t i h =
     let there = lt_at (overlap_zones c) i (omega (arith, h, t.zones.count)) in
     let owner = owner_of (overlap_zones c) n.zones zb zp t.zones i h in
-    let same = ap (λ (z : Zone). z.owner_idx) (at-getD (overlap_zones c) i no_zone there.0 there.1) in
+    let same = ap (λ (z : Zone). z.sup_idx) (at-getD (overlap_zones c) i no_zone there.0 there.1) in
     omega (arith, owner, same, all-at i there.0 (zones_owned c) there.1, t.superiors.count)

@@ -68,16 +68,16 @@ module _ (n : ℕ) (zb : List (List ℕ)) (h e : ℕ) where
   abbrev pub ZonesLeft : ℕ → ℕ → Type 0
   ZonesLeft least i =
       OfZones n zb
-      (λ zs. (z : Zone) → z.owner_idx ≡ h → z.end_bar ≡ e → (bar : ℕ) → bar < 0x1_0000
+      (λ zs. (z : Zone) → z.sup_idx ≡ h → z.end_bar ≡ e → (bar : ℕ) → bar < 0x1_0000
       → reaches_zone zs z bar ≡ (leb (least + suc e) bar || reaches_zone (drop i zs) z bar))
 
   -- of the zones from place `from` on, only those from place i on do so
   abbrev pub ZonesFrom : ℕ → ℕ → Type 0
   ZonesFrom from i =
       OfZones n zb
-      (λ zs. (z : Zone) → z.owner_idx ≡ h → z.end_bar ≡ e → (bar : ℕ) → reaches_zone (drop from zs) z bar ≡ reaches_zone (drop i zs) z bar)
+      (λ zs. (z : Zone) → z.sup_idx ≡ h → z.end_bar ≡ e → (bar : ℕ) → reaches_zone (drop from zs) z bar ≡ reaches_zone (drop i zs) z bar)
 
-  module _ (zs : List Zone) (zp : List (List Float)) (t : Zoned zs n zb zp) (z : Zone) (own : z.owner_idx ≡ h) (end : z.end_bar ≡ e) (bar : ℕ) where
+  module _ (zs : List Zone) (zp : List (List Float)) (t : Zoned zs n zb zp) (z : Zone) (own : z.sup_idx ≡ h) (end : z.end_bar ≡ e) (bar : ℕ) where
     -- one of the zones from place i on is reached
     abbrev later : ℕ → Bool
     later i = reaches_zone (drop i zs) z bar

@@ -28,7 +28,7 @@ OfZones n zb P = (zs : List Zone) (zp : List (List Float)) → Zoned zs n zb zp 
 -- the limit of a zone of superior h that ends at bar e, by the zones from place `from` on
 abbrev pub NextZone : ℕ → List (List ℕ) → ℕ → ℕ → ℕ → ℕ → Type 0
 NextZone n zb from h e limit =
-    OfZones n zb (λ zs. (z : Zone) → z.owner_idx ≡ h → z.end_bar ≡ e → Limits limit (reaches_zone (drop from zs) z))
+    OfZones n zb (λ zs. (z : Zone) → z.sup_idx ≡ h → z.end_bar ≡ e → Limits limit (reaches_zone (drop from zs) z))
 
 -- the start bars of the first n zones never fall
 abbrev pub StartsRise : ℕ → List (List ℕ) → Type 0
@@ -75,7 +75,7 @@ StartsAt m bars prices first last e r =
 
 -- the scan of zone z: its superior and that one's direction, the place of the big where it starts, and the limit that stops it
 pub record ZoneScan (c : Levels) (zs : List Zone) (z : Zone) (s : Scan) : Type 0 where
-  pub own : z.owner_idx ≡ s.superior
+  pub own : z.sup_idx ≡ s.superior
   pub way : (superior_of c z).direction ≡ s.direction
   pub begins :
       leaving c z.end_bar (suc (superior_of c z).last - (superior_of c z).first) (drop (superior_of c z).first c.bigs)

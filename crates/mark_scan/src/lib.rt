@@ -1,4 +1,7 @@
 // The scan of a zone's pairs, for third and 3+N marks: where it starts, what stops it, and the next pair. A limit of 65,536 is none.
+
+#![tactic(auto)]
+
 ghost use Rattle.std.specs.Prelude.{◌≡◌, true, cond, not, ◌&&◌, List, [], ◌+◌, ◌-◌, ◌%◌, ◌≤◌, ◌<◌, min, length, get_or, drop, eqb, leb, ltb, Float};
 ghost use Rattle.rules.specs.Records.{Levels};
 ghost use Rattle.tables.specs.Tables.{Sups, Fits, Tables};
@@ -163,7 +166,7 @@ fn reversal(sups: &[[u16; 5]; 256], n: usize, from: usize, d: u16, e: u16) -> u3
 // ---- the scans of all zones
 
 // The scan of a zone: its superior and that one's direction, the place of the big where it starts, and the limit that stops it.
-#[derive(Drop)]
+#[derive(Clone, Copy)]
 pub struct Scan {
     pub superior: u32,
     pub direction: u32,
@@ -270,7 +273,7 @@ pub fn scans_of(
 // ---- pairs
 
 // The next pair of a scan: the place behind its first big, and the end bar of its second.
-#[derive(Drop)]
+#[derive(Clone, Copy)]
 pub enum Pair {
     At(usize, usize),
     Over,

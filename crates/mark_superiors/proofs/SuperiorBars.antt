@@ -105,7 +105,7 @@ module _ (h : ℕ) (scans : List (List ℕ)) (n : Counts) (from : ℕ) (bars : L
                 let z = lt_at (overlap_zones c) i (omega (arith, s.scans.count)) in
                 let same : i + 0 ≡ i = omega arith in
                 let first = (rw same at (at_drop i 0 (overlap_zones c))) ∙ z.1 in
-                let up = all-at 0 z.0 (subst (All (λ (y : Zone). h < y.owner_idx)) (sym b.stand) b.above) first in
+                let up = all-at 0 z.0 (subst (All (λ (y : Zone). h < y.sup_idx)) (sym b.stand) b.above) first in
                 let named = (by_row c sups s z.0 z.1).own in
                 absurd (omega arith)
             go (z ∷ rest) b e =

@@ -32,8 +32,8 @@ PutsPairs m bars prices scan k out r out' =
 -- the zones from place `at` on are first superior h's own, and then those of later superiors
 pub record Block (c : Levels) (h at : ℕ) (own later : List Zone) : Type 0 where
   pub stand : drop at (overlap_zones c) ≡ own ++ later
-  pub owned : All (λ (z : Zone). z.owner_idx ≡ h) own
-  pub above : All (λ (z : Zone). h < z.owner_idx) later
+  pub owned : All (λ (z : Zone). z.sup_idx ≡ h) own
+  pub above : All (λ (z : Zone). h < z.sup_idx) later
 
 -- the first `count` bars are those of superior h's zones, which stand from place `at` on, and the zones behind them begin at place `next`
 abbrev pub TakesBlock : ℕ → Counts → List (List ℕ) → List (List Float) → List (List ℕ) → ℕ → ℕ → ℕ → List ℕ → Type 0

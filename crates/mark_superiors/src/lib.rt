@@ -1,5 +1,8 @@
 // The rows of the superiors for 3+N marks: all pairs that the scans of a superior's zones meet, hit or not, made unique by bar, sorted and
 // numbered. Bigs, superiors and scans are lent as tables.
+
+#![tactic(auto)]
+
 ghost use Rattle.std.specs.Prelude.{◌≡◌, List, [], ℕ, ◌≤◌, length, take};
 ghost use Rattle.rules.specs.Records.{Levels};
 ghost use Rattle.laws.specs.Lists.{end_bars};
@@ -45,7 +48,7 @@ fn zone_bars(
 }
 
 // The bars of a superior's zones: how many, and the place where the zones of the next superior begin.
-#[derive(Drop)]
+#[derive(Clone, Copy)]
 struct OwnBars {
     count: usize,
     next: usize,

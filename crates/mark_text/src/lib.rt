@@ -1,4 +1,7 @@
 // The text that the program `marks` prints.
+
+#![tactic(auto)]
+
 ghost use Rattle.std.specs.Prelude.{◌≡◌, false, not, cond, ◌+◌, ◌≤◌, length, take};
 ghost use Rattle.chart.specs.declared.NMark.{NMark};
 ghost use Rattle.price.specs.Price.{is_price, Price};
@@ -9,7 +12,7 @@ ghost use Rattle.text.specs.Puts.{Puts};
 use chart::NMark;
 
 // Some text: its first `len` bytes.
-#[derive(Drop)]
+#[derive(Clone, Copy)]
 pub struct Text {
     pub bytes: [u8; 24576],
     pub len: usize,

@@ -1,5 +1,8 @@
 // Third marks gathered into lent rows: of zones, then of anchors. A mark's key has its bar and side, its row its price and its ground's
 // price.
+
+#![tactic(auto)]
+
 ghost use Rattle.std.specs.Prelude.{◌≡◌, cond, ℕ, ◌≤◌, ◌<◌, length, take, eqb};
 ghost use Rattle.rules.specs.Lists.{any};
 ghost use Rattle.rules.specs.Records.{is_up};
@@ -176,7 +179,7 @@ fn anchor_marks(
 // ---- zones and anchors
 
 // How many marks there are of zones, and in all.
-#[derive(Drop)]
+#[derive(Clone, Copy)]
 pub struct Thirds {
     pub zoned: usize,
     pub all: usize,

@@ -1,5 +1,8 @@
 // What the program `marks` prints of its two files, as bytes.
 
+#![tactic(auto)]
+
+
 ghost use Rattle.std.specs.Prelude.{◌≡◌, false, ◌≤◌, take};
 ghost use Rattle.rules.specs.Answer.{is_refused};
 ghost use Rattle.rules.specs.Records.{levels_of};

@@ -1,4 +1,7 @@
 // A log of calls, replayed on a live chart that begins with nothing in it, and the bars of the log.
+
+#![tactic(auto)]
+
 ghost use Rattle.std.specs.Prelude.{◌≡◌};
 ghost use Rattle.std.proofs.Math.Option.{none};
 ghost use Rattle.log.specs.Log.{spelled};
@@ -10,7 +13,7 @@ use log::{LogEntry, Place};
 
 // What a replay leaves: where an entry of the log is bad, its place, and else an answer for each call, the chart behind them, and the bars of
 // the log in the first `bars` places.
-#[derive(Drop)]
+#[derive(Clone, Copy)]
 pub struct Replayed {
     pub answers: [u8; 32768],
     pub highs: [f64; 2048],

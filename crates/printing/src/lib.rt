@@ -1,5 +1,8 @@
 // The rows of `report`, some of them lines of `replay` too, written to standard output. Of printing only safety is proved, and a price's
 // digits.
+
+#![tactic(auto)]
+
 ghost use Rattle.std.specs.Prelude.{◌≡◌, cond, ◌≤◌, replicate};
 ghost use Rattle.std.specs.Float.Ieee.{is_nan, to_bits};
 ghost use Rattle.std.specs.Float.{binary64};
@@ -116,7 +119,7 @@ pub fn print_big(range: Range, end_point: EndPoint) {
 // A row of the section ZONES, behind a word: none in `report`, what the line is in `replay`.
 fn print_zone(word: &[u8], z: Zone) {
     io::write_all(1, word);
-    print_number(z.owner_idx);
+    print_number(z.sup_idx);
     print_number(z.start_bar);
     print_number(z.end_bar);
     print_price(z.zd);

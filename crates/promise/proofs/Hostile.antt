@@ -14,7 +14,6 @@ use lib.Seq.{take_all}
 use Rattle.chart.specs.declared.Stroke.{Stroke}
 use Rattle.chart.specs.declared.Triple.{Triple}
 use Rattle.chart.specs.declared.Span.{Span}
-use Rattle.chart.specs.declared.Range.{Range}
 use Rattle.chart.specs.declared.Zone.{Zone}
 use Rattle.chart.specs.declared.Ground.TheVariants as ground
 use Rattle.chart.specs.declared.ThirdMark.{ThirdMark}
@@ -23,7 +22,8 @@ use Rattle.price.specs.Price.{Price}
 use Rattle.price.proofs.Order.{keys, tests}
 use Rattle.rules.specs.Answer.{refused, rows_answer}
 use Rattle.rules.specs.Records.{is_up, Levels, levels_of, Quotes}
-use Rattle.rules.specs.Zones.{overlap_zones, lower_zones_of}
+use Rattle.rules.specs.Ranges.{range_of}
+use Rattle.rules.specs.Zones.{overlap_zones, members_of}
 use Rattle.rules.specs.Marks.{
   quote,
   scanned,
@@ -42,7 +42,7 @@ use Rattle.rules.specs.Refusals.{refuse, overfull, bad_chart, bad_live, bad_slic
 use Rattle.rules.specs.Calls.{on_chart, third_call, n_call}
 use Rattle.rules.specs.Machine.{Call}
 use Rattle.rules.specs.Live.{view, live_refusal, after}
-use Rattle.rules.specs.Claims.{Opposes, MemberAt, RangeAt, Covered, named, From, Stems, of_third, of_superior, of_anchor}
+use Rattle.rules.specs.Claims.{Opposes, MemberAt, RangeAt, named, From, Stems, of_third, of_superior, of_anchor}
 use Rattle.rules.proofs.Computing.{everything}
 use Rattle.rules.proofs.Charts.{triple, zone_third, mark}
 use Rattle.rules.proofs.ChartK.{K, bars_of, bars_k}
@@ -50,7 +50,7 @@ use Rattle.live.specs.declared.Live.{Live}
 use Rattle.live.specs.Did.{data_of, part, Did}
 use Rattle.laws.proofs.Tests.{none-some}
 use Rattle.laws.proofs.Lists.{all_there, all-at}
-use Rattle.promise.specs.Promise.{levels_in, zones_in, lower_in, Result, Thirds, ThreeN, Promise}
+use Rattle.promise.specs.Promise.{levels_in, zones_in, Result, Thirds, ThreeN, Promise}
 
 same_taken : {A : Type 0} (xs : List A) (n : ℕ) → length xs ≡ 512 → n ≡ 512 → take 600 xs ≡ take n xs
 same_taken xs n h e = take_all 600 xs (omega arith) ∙ sym (take_all n xs (omega arith))
@@ -79,9 +79,7 @@ lie d =
             superior_count = d.chart.superior_count;
           };
       zones = d.zones;
-      lower_zones = d.lower_zones;
       zone_count = d.zone_count;
-      lower_count = d.lower_count;
       count = d.count;
     }
 
@@ -136,78 +134,78 @@ rows_beside_a_number r n k marks rows t = let e : suc k ≡ 0 = t.no_rows (λ (z
 
 -- ---- zones of the chart that a sequence leaves
 
--- zones other than those of the overlap rule, at either level
 module _ (ks : List Call) (ns : List ℕ) (d : Live) where
+  -- big j is an opposing one of superior h
+  abbrev Big : ℕ → ℕ → Type 0
+  Big h j = Opposes (levels_in d).bigs (levels_in d).superiors h j
+
+  -- it is a member of the zone in place n
+  abbrev In : ℕ → ℕ → Type 0
+  In j n = MemberAt (zones_in d) (members_of (levels_in d)) j n
+
+  -- zones other than those of the overlap rule
   other-zones : zones_in d ≢ overlap_zones (levels_in d) → Promise ks ns d → ⊥
   other-zones h p = h p.zones_are
 
-  other-lower-zones : lower_in d ≢ lower_zones_of (levels_in d) → Promise ks ns d → ⊥
-  other-lower-zones h p = h p.lower_zones_are
+  -- zones of superior 0 only, though a later one has an opposing big
+  first-superior-only :
+      (h j : ℕ) → Big (suc h) j → ((n : ℕ) (z : Zone) → get_elem? (zones_in d) n ≡ some z → z.sup_idx ≡ 0) → Promise ks ns d → ⊥
+  first-superior-only h j b f p =
+      let o = p.one_zone (suc h) j b in
+      omega (arith, f o.place o.there.zone o.there.zone_at, o.its_owner)
 
--- what `upper` and `lower` shut out: zones of owners over the records of a level
-module _
-    (range : Triple → Range) (level owners : List Triple) (members : Zone → List ℕ) (zones : List Zone)
-    (p : Covered range level owners members zones)
-  where
-    -- record j is an opposing one of owner h
-    abbrev Item : ℕ → ℕ → Type 0
-    Item h j = Opposes level owners h j
+  -- an opposing big in no zone, and one in two
+  in-no-zone : (h j : ℕ) → Big h j → ((n : ℕ) → In j n → ⊥) → Promise ks ns d → ⊥
+  in-no-zone h j b f p = let o = p.one_zone h j b in f o.place o.there
 
-    -- it is a member of the zone in place n
-    abbrev In : ℕ → ℕ → Type 0
-    In j n = MemberAt zones members j n
+  in-two-zones : (h j m n : ℕ) → Big h j → In j m → In j n → m ≢ n → Promise ks ns d → ⊥
+  in-two-zones h j m n b u v e p = let o = p.one_zone h j b in e (o.only m u ∙ sym (o.only n v))
 
-    -- zones of owner 0 only, though a later one has an opposing record
-    first-owner-only : (h j : ℕ) → Item (suc h) j → ((n : ℕ) (z : Zone) → get_elem? zones n ≡ some z → z.owner_idx ≡ 0) → ⊥
-    first-owner-only h j b f =
-        let o = p.one_zone (suc h) j b in
-        omega (arith, f o.place o.there.zone o.there.zone_at, o.its_owner)
+  -- one that is counted twice in its zone
+  counted-twice :
+      (h j n : ℕ) (z : Zone) → Big h j → get_elem? (zones_in d) n ≡ some z
+      → (i k : ℕ) → get_elem? (members_of (levels_in d) z) i ≡ some j → get_elem? (members_of (levels_in d) z) k ≡ some j → i ≢ k
+      → Promise ks ns d → ⊥
+  counted-twice h j n z b e i k f g differ p =
+      let l = levels_in d in
+      let o = p.one_zone h j b in
+      let at : In j n = record { zone = z; zone_at = e; member = all-at i j (all_there (members_of l z)) f } in
+      let its : n ≡ o.place = o.only n at in
+      let same : z ≡ o.there.zone = cc in
+      let place : (x : ℕ) → get_elem? (members_of l z) x ≡ some j → get_elem? (members_of l o.there.zone) x ≡ some j =
+      λ x u. subst (λ (y : Zone). get_elem? (members_of l y) x ≡ some j) same u in
+      differ (o.once i k (place i f) (place k g))
 
-    -- an opposing record in no zone, and one in two
-    in-no-zone : (h j : ℕ) → Item h j → ((n : ℕ) → In j n → ⊥) → ⊥
-    in-no-zone h j b f = let o = p.one_zone h j b in f o.place o.there
+  module _ (z : Zone) (there : Memᴰ z (zones_in d)) where
+    -- a zone that says another number of members than it has, and one with a member that is no opposing big of its superior
+    miscounted : length (members_of (levels_in d) z) ≢ z.members → Promise ks ns d → ⊥
+    miscounted h p = h (p.members_are z there)
 
-    in-two-zones : (h j m n : ℕ) → Item h j → In j m → In j n → m ≢ n → ⊥
-    in-two-zones h j m n b u v e = let o = p.one_zone h j b in e (o.only m u ∙ sym (o.only n v))
+    -- a zone whose bar of dd is that of a member, though another with this low has a smaller one; and one whose bar of gg no member with this high has
+    later-bar :
+        (j : ℕ) (s : Span) → Memᴰ j (members_of (levels_in d) z) → RangeAt (range_of (levels_in d)) (levels_in d).bigs j s → s.low ≡ z.dd
+        → s.low_bar < z.dd_bar → Promise ks ns d → ⊥
+    later-bar j s m r e less p = omega (arith, (p.extremes z there).low.smallest j s m r e)
 
-    -- one that is counted twice in its zone
-    counted-twice :
-        (h j n : ℕ) (z : Zone) → Item h j → get_elem? zones n ≡ some z
-        → (i k : ℕ) → get_elem? (members z) i ≡ some j → get_elem? (members z) k ≡ some j → i ≢ k → ⊥
-    counted-twice h j n z b e i k f g differ =
-        let o = p.one_zone h j b in
-        let at : In j n = record { zone = z; zone_at = e; member = all-at i j (all_there (members z)) f } in
-        let its : n ≡ o.place = o.only n at in
-        let same : z ≡ o.there.zone = cc in
-        let place : (x : ℕ) → get_elem? (members z) x ≡ some j → get_elem? (members o.there.zone) x ≡ some j =
-        λ x u. subst (λ (y : Zone). get_elem? (members y) x ≡ some j) same u in
-        differ (o.once i k (place i f) (place k g))
+    bar-of-no-member :
+        ((j : ℕ) (s : Span) → Memᴰ j (members_of (levels_in d) z) → RangeAt (range_of (levels_in d)) (levels_in d).bigs j s → s.high ≡ z.gg
+        → s.high_bar ≢ z.gg_bar)
+        → Promise ks ns d → ⊥
+    bar-of-no-member f p =
+        let t = (p.extremes z there).high in
+        f t.member t.span t.is_member t.its_range t.its_price t.its_bar
 
-    module _ (z : Zone) (there : Memᴰ z zones) where
-      -- a zone that says another number of members than it has, and one with a member that is no opposing record of its owner
-      miscounted : length (members z) ≢ z.members → ⊥
-      miscounted h = h (p.members_are z there)
+    stranger : (j : ℕ) → Memᴰ j (members_of (levels_in d) z) → (Big z.sup_idx j → ⊥) → Promise ks ns d → ⊥
+    stranger j m h p = h (p.members_oppose z there j m)
 
-      stranger : (j : ℕ) → Memᴰ j (members z) → (Item z.owner_idx j → ⊥) → ⊥
-      stranger j m h = h (p.members_oppose z there j m)
+    -- two members or more with zd = zg, and edges that are not in order
+    touching : Price z.zd → 2 ≤ z.members → z.zd ≡ z.zg → Promise ks ns d → ⊥
+    touching x two e p =
+        let h : lt z.zd z.zd ≡ true = subst (λ (y : Float). lt z.zd y ≡ true) (sym e) ((p.edges z there).overlap two) in
+        omega (tests, simp keys at h)
 
-      -- a zone whose bar of dd is that of a member, though another with this low has a smaller one; and one whose bar of gg no member with this high has
-      later-bar : (j : ℕ) (s : Span) → Memᴰ j (members z) → RangeAt range level j s → s.low ≡ z.dd → s.low_bar < z.dd_bar → ⊥
-      later-bar j s m r e less = omega (arith, (p.extremes z there).low.smallest j s m r e)
-
-      bar-of-no-member : ((j : ℕ) (s : Span) → Memᴰ j (members z) → RangeAt range level j s → s.high ≡ z.gg → s.high_bar ≢ z.gg_bar) → ⊥
-      bar-of-no-member f =
-          let t = (p.extremes z there).high in
-          f t.member t.span t.is_member t.its_range t.its_price t.its_bar
-
-      -- two members or more with zd = zg, and edges that are not in order
-      touching : Price z.zd → 2 ≤ z.members → z.zd ≡ z.zg → ⊥
-      touching x two e =
-          let h : lt z.zd z.zd ≡ true = subst (λ (y : Float). lt z.zd y ≡ true) (sym e) ((p.edges z there).overlap two) in
-          omega (tests, simp keys at h)
-
-      crossed : (le z.dd z.zd && le z.zd z.zg && le z.zg z.gg) ≡ false → ⊥
-      crossed h = let e = p.edges z there in false≢true (sym h ∙ rw (e.dd_zd, e.zd_zg, e.zg_gg))
+    crossed : (le z.dd z.zd && le z.zd z.zg && le z.zg z.gg) ≡ false → Promise ks ns d → ⊥
+    crossed h p = let e = p.edges z there in false≢true (sym h ∙ rw (e.dd_zd, e.zd_zg, e.zg_gg))
 
 -- ---- results of the third call: a row m of an accepted one, on any chart, for all lent prices
 

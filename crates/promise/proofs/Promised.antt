@@ -4,23 +4,22 @@ use native.Mathlib.Omega.{arith}
 use mathlib.Core.Path.{◌≡◌, sym, ap, subst, ◌∙◌}
 use mathlib.Core.Bool.{false}
 use mathlib.Core.List.{List, Memᴰ}
+use Rattle.chart.specs.declared.Zone.{Zone}
 use Rattle.chart.specs.declared.Chart.{Chart}
 use Rattle.chart.specs.declared.ThirdMark.{ThirdMark}
 use Rattle.chart.specs.declared.NMark.{NMark}
 use Rattle.rules.specs.Answer.{rows_answer}
 use Rattle.rules.specs.Records.{levels_of, Quotes}
-use Rattle.rules.specs.Ranges.{range_of, segment_range}
-use Rattle.rules.specs.Zones.{overlap_zones, members_of, lower_zones_of, lower_members_of}
+use Rattle.rules.specs.Zones.{overlap_zones, members_of}
 use Rattle.rules.specs.Marks.{third_marks, n_marks}
 use Rattle.rules.specs.Refusals.{bad_chart, zones_refusal}
 use Rattle.rules.specs.Calls.{third_call, n_call}
-use Rattle.rules.specs.Machine.{Call, zones, lower}
-use Rattle.rules.specs.Claims.{Covered, Earlier, Apart}
+use Rattle.rules.specs.Machine.{Call, zones}
+use Rattle.rules.specs.Claims.{OneZone, Earlier, Apart}
 use Rattle.laws.proofs.Lists.{All, all_in}
 use Rattle.laws.proofs.Ordered.{InOrder, not-bad, not-broken}
 use Rattle.laws.proofs.Machine.{not-21-ordered, not-21-good}
-use Rattle.laws.proofs.Zones.{zones-covered, never-11}
-use Rattle.laws.proofs.Lower.{lower-covered}
+use Rattle.laws.proofs.Zones.{zones-edges, zone-opposes, zones-members, zones-extremes, one_zone, never-11}
 use Rattle.laws.proofs.Thirds.{thirds_beyond}
 use Rattle.laws.proofs.Grounds.{thirds_traced}
 use Rattle.laws.proofs.Unique.{marks_apart}
@@ -30,8 +29,8 @@ use Rattle.laws.proofs.Stems.{marks-stem}
 use Rattle.live.specs.declared.Live.{Live}
 use Rattle.live.specs.Did.{data_of}
 use Rattle.live.specs.Sequence.{AsMachine}
-use Rattle.live.proofs.Chained.{sequence, levels-are, zones_are, lower-are}
-use Rattle.promise.specs.Promise.{levels_in, zones_in, lower_in, Thirds, ThreeN, Promise, ThePromise}
+use Rattle.live.proofs.Chained.{sequence, levels-are, zones_are}
+use Rattle.promise.specs.Promise.{levels_in, zones_in, Thirds, ThreeN, Promise, ThePromise}
 use Rattle.promise.proofs.Results.{result, third-is, n-refusal, n-is}
 
 -- what holds of every one of some rows holds of each of rows that are the same
@@ -75,33 +74,28 @@ module _ (c : Chart) (good : bad_chart c ≡ false) (o : InOrder (levels_of c)) 
 
 -- ---- the chart that a sequence leaves
 
-module _ (ks : List Call) (ns : List ℕ) (d : Live) (a : AsMachine ks ns d) where
-  left_zones : zones_in d ≡ overlap_zones (levels_in d)
-  unfolding zones
-  left_zones = zones_are ks ns d a ∙ ap overlap_zones (sym (levels-are ks ns d a))
+left_zones : (ks : List Call) (ns : List ℕ) (d : Live) → AsMachine ks ns d → zones_in d ≡ overlap_zones (levels_in d)
+unfolding zones
+left_zones ks ns d a = zones_are ks ns d a ∙ ap overlap_zones (sym (levels-are ks ns d a))
 
-  left-lower : lower_in d ≡ lower_zones_of (levels_in d)
-  unfolding lower
-  left-lower = lower-are ks ns d a ∙ ap lower_zones_of (sym (levels-are ks ns d a))
-
-  -- a chart that is as the machine's: every clause
-  pub left : Promise ks ns d
-  left =
-      let l = levels_in d in
-      let o = not-21-ordered (data_of d) a.in_order in
-      let good = not-21-good (data_of d) a.in_order in
-      record {
-        as_machine = a;
-        zones_are = left_zones;
-        lower_zones_are = left-lower;
-        upper =
-            subst (Covered (range_of l) l.bigs l.superiors (members_of l)) (sym left_zones) (zones-covered l (not-broken l o) (not-bad l o));
-        lower =
-            subst (Covered (segment_range l) l.segments l.bigs (lower_members_of l)) (sym left-lower)
-            (lower-covered l (not-broken l o) (not-bad l o));
-        third = third d.chart good o;
-        three_n = three_n d.chart good o;
-      }
+-- a chart that is as the machine's: every clause
+pub left : (ks : List Call) (ns : List ℕ) (d : Live) → AsMachine ks ns d → Promise ks ns d
+left ks ns d a =
+    let l = levels_in d in
+    let o = not-21-ordered (data_of d) a.in_order in
+    let good = not-21-good (data_of d) a.in_order in
+    let z = left_zones ks ns d a in
+    record {
+      as_machine = a;
+      zones_are = z;
+      one_zone = λ i j w. subst (λ (zs : List Zone). OneZone zs (members_of l) i j) (sym z) (one_zone l (not-broken l o) i j w);
+      members_are = each_of z (zones-members l);
+      members_oppose = λ y m j w. zone-opposes l y j w;
+      edges = each_of z (zones-edges l (not-bad l o));
+      extremes = each_of z (zones-extremes l (not-bad l o));
+      third = third d.chart good o;
+      three_n = three_n d.chart good o;
+    }
 
 pub promise : ThePromise
 promise b d ks ns h t = left ks ns d (sequence b d ks ns h t)

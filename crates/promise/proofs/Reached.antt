@@ -15,8 +15,8 @@ use Rattle.chart.specs.declared.ThirdMark.{ThirdMark}
 use Rattle.chart.specs.declared.NMark.{NMark}
 use Rattle.rules.specs.Answer.{refused, answered, rows_answer}
 use Rattle.rules.specs.Records.{Levels, levels_of, Quotes}
-use Rattle.rules.specs.Zones.{overlap_zones, lower_zones_of, lower_members_of, zones_from}
-use Rattle.rules.specs.Refusals.{overfull, kept_zones, kept_lower}
+use Rattle.rules.specs.Zones.{overlap_zones, zones_from}
+use Rattle.rules.specs.Refusals.{overfull, kept_zones}
 use Rattle.rules.specs.Calls.{third_call, n_call}
 use Rattle.rules.specs.Machine.{
   Call,
@@ -31,13 +31,11 @@ use Rattle.rules.specs.Machine.{
   derive_superiors,
   empty,
   zones,
-  lower,
   refusal,
   step,
   run,
   answers,
 }
-use Rattle.rules.specs.Claims.{OneZone}
 use Rattle.rules.specs.Live.{view, seen, live_refusal, after}
 use Rattle.rules.proofs.Computing.{everything}
 use Rattle.rules.proofs.Charts.{
@@ -57,16 +55,15 @@ use Rattle.rules.proofs.Charts.{
   anchor_third,
   mark,
 }
-use Rattle.rules.proofs.ChartK.{K, bars_of, bars_k, zone_k}
+use Rattle.rules.proofs.ChartK.{K, bars_of, bars_k}
 use Rattle.laws.proofs.Ordered.{InOrder, not-broken}
 use Rattle.laws.proofs.Zones.{zones_256}
-use Rattle.laws.proofs.Lower.{lower_256}
 use Rattle.laws.proofs.Machine.{step_ordered, run_ordered, live-is}
 use Rattle.laws.proofs.Answers.{given-rows, refused-rows}
 use Rattle.live.specs.declared.Live.{Live}
 use Rattle.live.specs.Did.{data_of, part, TrueCounts, Did, Nothing}
 use Rattle.live.specs.Sequence.{Chain, done, next}
-use Rattle.promise.specs.Promise.{levels_in, lower_in, Thirds, ThreeN, Promise}
+use Rattle.promise.specs.Promise.{levels_in, Thirds, ThreeN, Promise}
 use Rattle.promise.proofs.Promised.{promise}
 
 -- ---- a live chart for each state of the machine: its lists, in arrays of just their length. The code has arrays of fixed size, and its contracts
@@ -87,9 +84,7 @@ live_of m =
             superior_count = length m.levels.superiors;
           };
       zones = overlap_zones m.levels;
-      lower_zones = lower_zones_of m.levels;
       zone_count = length (overlap_zones m.levels);
-      lower_count = length (lower_zones_of m.levels);
       count = m.count;
     }
 
@@ -105,8 +100,8 @@ module _ (m : Machine) where
       )
 
   part_same : part (live_of m) ≡ seen m
-  unfolding part view seen zones lower live_of
-  part_same = rw (levels-same, take-length (overlap_zones m.levels), take-length (lower_zones_of m.levels))
+  unfolding part view seen zones live_of
+  part_same = rw (levels-same, take-length (overlap_zones m.levels))
 
   true_counts : TrueCounts (live_of m)
   unfolding live_of
@@ -117,7 +112,6 @@ module _ (m : Machine) where
         bigs = ap length (take-length m.levels.bigs);
         superiors = ap length (take-length m.levels.superiors);
         zones = ap length (take-length (overlap_zones m.levels));
-        lower = ap length (take-length (lower_zones_of m.levels));
       }
 
   module _ (o : InOrder m.levels) where
@@ -136,15 +130,13 @@ module _ (m : Machine) where
     answer-is k =
         live-is (data_of (live_of m)) fits (subst InOrder (sym levels-same) o)
         (zones_256 m.levels (not-broken m.levels o) o.bigs.fit)
-        (take-length (overlap_zones m.levels) ∙ ap overlap_zones (sym levels-same))
-        (lower_256 m.levels (not-broken m.levels o) o.segments.fit)
-        (take-length (lower_zones_of m.levels) ∙ ap lower_zones_of (sym levels-same)) k
+        (take-length (overlap_zones m.levels) ∙ ap overlap_zones (sym levels-same)) k
         ∙ ap (λ (c : Levels). refusal c k) levels-same
 
 -- ---- every list of calls has its chain
 
 did : (m : Machine) → InOrder m.levels → (k : Call) → Did (live_of m) k (refusal m.levels k) (live_of (step m k))
-unfolding step after seen zones lower
+unfolding step after seen zones
 did m o k =
     record {
       number = sym (answer-is m o k);
@@ -159,8 +151,8 @@ chain m o [] = done
 chain m o (k ∷ ks) = next (did m o k) (chain (step m k) (step_ordered m o k) ks)
 
 nothing : Nothing (live_of empty)
-unfolding live_of empty overlap_zones lower_zones_of zones_from
-nothing = record { strokes = refl; segments = refl; bigs = refl; superiors = refl; zones = refl; lower = refl; count = refl }
+unfolding live_of empty overlap_zones zones_from
+nothing = record { strokes = refl; segments = refl; bigs = refl; superiors = refl; zones = refl; count = refl }
 
 pub every_list : (ks : List Call) → (b : Live) × (d : Live) × Nothing b × Chain b ks (answers empty ks) d
 unfolding run
@@ -292,41 +284,6 @@ tied_bars = record { by = way tying refl; zone_there = refl }
 -- the promise speaks of it
 tied_promised : Promise (calls_in tying) (numbers_in tying) tied_bars.by.left
 tied_promised = promise _ _ _ _ tied_bars.by.nothing tied_bars.by.chain
-
--- ---- K's strokes and segments, and a big over five of them: a lower zone of two members, and no overlap zone; a big added behind it has its own,
--- which is gone when that big is withdrawn
-
-abbrev below_k : List Asked
-below_k = accepted (map add_stroke K.strokes ++ map add_segment K.segments ++ add_big (triple 1 0 4) ∷ add_big (triple 1 5 5) ∷ [])
-
-record Below : Type 0 where
-  by : Way below_k
-  zone_there : kept_lower (data_of by.left) ≡ zone_k ∷ zone 1 25 29 26 30 26 30 5 1 29 25 ∷ []
-  no_overlap_zone : kept_zones (data_of by.left) ≡ []
-  again : Way (below_k ++ (asked (withdraw 2) 0 ∷ []))
-  withdrawn : kept_lower (data_of again.left) ≡ zone_k ∷ []
-
-below_k_lem : Below
-unfolding everything live_of way
-below_k_lem = record { by = way below_k refl; zone_there = refl; no_overlap_zone = refl; again = way (below_k ++ (asked (withdraw 2) 0 ∷ [])) refl; withdrawn = refl }
-
--- the promise speaks of it: of its second segment, a member of the first lower zone
-below_promised : Promise (calls_in below_k) (numbers_in below_k) below_k_lem.by.left
-below_promised = promise _ _ _ _ below_k_lem.by.nothing below_k_lem.by.chain
-
-below-zone : OneZone (lower_in below_k_lem.by.left) (lower_members_of (levels_in below_k_lem.by.left)) 0 1
-unfolding everything live_of way below_k_lem
-below-zone =
-    below_promised.lower.one_zone 0 1
-    (record {
-      owner = triple 1 0 4;
-      item = triple 0 1 1;
-      owner_at = refl;
-      item_at_fact = refl;
-      not_before = omega arith;
-      not_behind = omega arith;
-      other = λ (e : ◌≡◌ {A = ℕ} 0 1). omega arith;
-    })
 
 -- ---- every kind of call, refused ones among them with each number but 3 (a full level) and 21; marks of both sides, on zones and on an anchor, one of
 -- order 2. Numbers, records and rows are those of 01 and of the reference

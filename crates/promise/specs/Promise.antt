@@ -1,5 +1,5 @@
 -- Demand 3 of the customer's letter as one statement, over the definitions that the contracts of the code cite. Sentences in quotes are the
--- letter's, but for those of request 13. Assumes nothing.
+-- letter's, but for the clause of request 6. Assumes nothing.
 use Rattle.std.specs.Prelude.{ℕ, ◌≤◌, ◌≡◌, ◌≢◌, length, take}
 use mathlib.Core.List.{List, Memᴰ}
 use Rattle.std.proofs.Math.Option.{some}
@@ -8,26 +8,23 @@ use Rattle.chart.specs.declared.ThirdMark.{ThirdMark}
 use Rattle.chart.specs.declared.NMark.{NMark}
 use Rattle.rules.specs.Answer.{rows_answer}
 use Rattle.rules.specs.Records.{Levels, levels_of, Quotes}
-use Rattle.rules.specs.Ranges.{range_of, segment_range}
-use Rattle.rules.specs.Zones.{overlap_zones, members_of, lower_zones_of, lower_members_of}
+use Rattle.rules.specs.Ranges.{range_of}
+use Rattle.rules.specs.Zones.{overlap_zones, members_of}
 use Rattle.rules.specs.Marks.{quote, third_marks, n_marks}
 use Rattle.rules.specs.Refusals.{refuse, bad_slices, bad_quotes, ends_outside}
 use Rattle.rules.specs.Calls.{third_call, n_call}
 use Rattle.rules.specs.Machine.{Call}
-use Rattle.rules.specs.Claims.{Covered, Beyond, Traced, Stems, Earlier, Apart}
+use Rattle.rules.specs.Claims.{Opposes, OneZone, Edges, Extremes, Beyond, Traced, Stems, Earlier, Apart}
 use Rattle.live.specs.declared.Live.{Live}
 use Rattle.live.specs.Did.{Nothing}
 use Rattle.live.specs.Sequence.{Chain, AsMachine}
 
--- the records, the zones and the lower zones of a live chart
+-- the records and the zones of a live chart
 abbrev pub levels_in : Live → Levels
 levels_in d = levels_of d.chart
 
 abbrev pub zones_in : Live → List Zone
 zones_in d = take d.zone_count d.zones
-
-abbrev pub lower_in : Live → List Zone
-lower_in d = take d.lower_count d.lower_zones
 
 -- ---- the results of the third and the 3+N call: a number, a count and an array of rows
 
@@ -69,17 +66,23 @@ pub record ThreeN (c : Levels) (q : Quotes) (number count : ℕ) (rows : List NM
 -- the calls ks were answered with ns and left d
 pub record Promise (ks : List Call) (ns : List ℕ) (d : Live) : Type 0 where
   -- "For every such sequence the answers, records, count and zones are exactly those of 01's plain machine": and the count is that of the
-  -- accepted calls up to 4294967295, every count handed back is true, and no call on the chart left is refused with 21. 02, request 13: "The live chart
-  -- keeps these zones too, so its sequence promise covers them"
+  -- accepted calls up to 4294967295, every count handed back is true, and no call on the chart left is refused with 21
   pub as_machine : AsMachine ks ns d
-  -- the zones, among which a mark is traced, and the lower zones are those of the overlap rule on the records left
+  -- the zones, among which a mark is traced, are those of the overlap rule on the records left
   pub zones_are : zones_in d ≡ overlap_zones (levels_in d)
-  pub lower_zones_are : lower_in d ≡ lower_zones_of (levels_in d)
-  -- all that is claimed of zones, of those of superiors over bigs and of those of bigs over segments
-  pub upper :
-      Covered (range_of (levels_in d)) (levels_in d).bigs (levels_in d).superiors (members_of (levels_in d)) (zones_in d)
-  pub lower :
-      Covered (segment_range (levels_in d)) (levels_in d).segments (levels_in d).bigs (lower_members_of (levels_in d)) (lower_in d)
+  -- "Each opposing big segment of a superior is a member of exactly one zone", and that zone is the superior's
+  pub one_zone :
+      (h j : ℕ) → Opposes (levels_in d).bigs (levels_in d).superiors h j → OneZone (zones_in d) (members_of (levels_in d)) h j
+  -- a zone has as many members as it says, and each is an opposing big segment of its superior
+  pub members_are : (z : Zone) → Memᴰ z (zones_in d) → length (members_of (levels_in d) z) ≡ z.members
+  pub members_oppose :
+      (z : Zone) → Memᴰ z (zones_in d) → (j : ℕ) → Memᴰ j (members_of (levels_in d) z)
+      → Opposes (levels_in d).bigs (levels_in d).superiors z.sup_idx j
+  -- "Every zone has dd ≤ zd ≤ zg ≤ gg, and one of two or more members has zd < zg"
+  pub edges : (z : Zone) → Memᴰ z (zones_in d) → Edges z
+  -- 02, request 6: "Every zone passes this on as the bar of dd and the bar of gg, the smallest bar number among its members on equal prices"
+  pub extremes :
+      (z : Zone) → Memᴰ z (zones_in d) → Extremes (range_of (levels_in d)) (levels_in d).bigs (members_of (levels_in d)) z
   -- for all lent highs and lows, and every result that stands for the third call's answer, as its contract says
   pub third :
       (q : Quotes) (number count : ℕ) (rows : List ThirdMark) → rows_answer number count rows ≡ third_call d.chart q

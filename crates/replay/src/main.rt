@@ -1,5 +1,8 @@
 // Prints what the calls of the log on standard input are answered with, the chart that they leave and its marks over the bars of the log, or
 // `bad log at P` alone.
+
+#![tactic(auto)]
+
 ghost use Rattle.std.specs.Prelude.{◌≤◌, length};
 
 // As many bytes as decide every log: one with more than 65,536 is bad, and its first bad entry is found in these.

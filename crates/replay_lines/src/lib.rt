@@ -1,5 +1,8 @@
 // What `replay` prints of a log: an answer for each call, then the chart, and where the log has bars the marks over them. Of printing only
 // safety is proved; answers, chart and marks come from the proved replay.
+
+#![tactic(auto)]
+
 use chart::{Chart, Stroke, Triple};
 use live::Live;
 use mark_rows::NRows;
@@ -59,7 +62,7 @@ fn print_chart(chart: Chart) {
     print_triples(b"superior ", superiors, chart.superior_count);
 }
 
-// The count of accepted calls, the records of each level, the zones and the lower zones.
+// The count of accepted calls, the records of each level, and the zones.
 fn print_live(b: Live) {
     io::write_all(1, b"count ");
     io::print_decimal(1, b.count as u64);
@@ -68,8 +71,6 @@ fn print_live(b: Live) {
     print_chart(chart);
     let zones = b.zones;
     printing::print_zones(b"zone ", zones, b.zone_count);
-    let lower = b.lower_zones;
-    printing::print_zones(b"lower ", lower, b.lower_count);
 }
 
 // The line of a mark call that is refused.

@@ -114,13 +114,9 @@ counted a b d e c =
 abbrev pub charted : Levels → Chart
 charted c = counted (length c.strokes) (length c.segments) (length c.bigs) (length c.superiors) c
 
--- a chart that keeps the first n of these zones, and the first m of these lower zones
-abbrev pub keeping_both : Chart → List Zone → ℕ → List Zone → ℕ → LiveData
-keeping_both c zs n ls m = record { chart = c; zones = zs; zone_count = n; lower = ls; lower_count = m }
-
--- and one that keeps no lower zone
+-- a chart that keeps the first n of these zones
 abbrev pub keeping : Chart → List Zone → ℕ → LiveData
-keeping c zs n = keeping_both c zs n [] 0
+keeping c zs n = record { chart = c; zones = zs; zone_count = n }
 
 -- n bars, with one high and one low
 abbrev pub flat : ℕ → ℕ → ℕ → Quotes
@@ -154,7 +150,7 @@ found from to low high low_bar_of high_bar_of =
 abbrev pub zone : ℕ → ℕ → ℕ → ℕ → ℕ → ℕ → ℕ → ℕ → ℕ → ℕ → ℕ → Zone
 zone h from to d g dd gg m n low high =
     record {
-      owner_idx = h;
+      sup_idx = h;
       start_bar = from;
       end_bar = to;
       zd = price d;

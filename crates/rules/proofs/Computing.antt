@@ -7,7 +7,6 @@ use Rattle.rules.specs.Records as records
 use Rattle.rules.specs.Answer as answer
 use Rattle.rules.specs.Ranges as ranges
 use Rattle.rules.specs.Zones as zones
-use Rattle.rules.specs.Split as split
 use Rattle.rules.specs.Machine as machine
 use Rattle.rules.specs.Live as live
 use Rattle.rules.specs.Marks as marks
@@ -28,8 +27,7 @@ unfolding records.levels_of
     ranges.first_stroke ranges.last_stroke ranges.spanned ranges.range_of ranges.segment_range ranges.end_point_of
     zones.opposing zones.low_bar_of zones.high_bar_of zones.begin zones.joins zones.join zones.cut zones.runs zones.within zones.opposing_of zones.zones_of zones.zones_from
     zones.members_in zones.overlap_zones zones.members_of zones.lower_zones_of zones.lower_members_of
-    split.edge split.zone_of
-    machine.empty machine.zones machine.lower machine.refusal machine.with_strokes machine.with_segments machine.with_bigs machine.with_superiors
+    machine.empty machine.zones machine.refusal machine.with_strokes machine.with_segments machine.with_bigs machine.with_superiors
     machine.lengthened machine.withdrawn machine.as_triple machine.stepped machine.step machine.run machine.answers
     live.view live.seen live.live_refusal live.after
     marks.quote marks.beats marks.price_at marks.superior_of marks.leaving marks.reaches_zone marks.superior_end marks.reversal
@@ -52,7 +50,7 @@ unfolding records.levels_of
     text.ascii text.decimal_within text.decimal text.hex_digit text.hex text.mark_line text.marks_text text.refused_line
     refusals.refuse refusals.wrong_bytes refusals.bad_prices refusals.bad_stroke refusals.unmet refusals.unjoined refusals.bad_triple refusals.overfull refusals.wrong_stroke
     refusals.bad_levels refusals.bad_chart refusals.broken_strokes refusals.broken_triples refusals.broken_levels refusals.same_price
-    refusals.same_zone refusals.same_zones refusals.other_zones refusals.bad_live refusals.stroke_refusal refusals.triple_refusal refusals.lengthen_refusal
+    refusals.same_zone refusals.same_zones refusals.bad_live refusals.stroke_refusal refusals.triple_refusal refusals.lengthen_refusal
     refusals.held refusals.withdraw_refusal refusals.derive_refusal refusals.zones_refusal refusals.lower_refusal refusals.unequal refusals.bad_slices
     refusals.bad_quotes refusals.third_refusal refusals.ends_outside refusals.n_refusal refusals.lacks refusals.segment_classes_refusal
     refusals.big_classes_refusal

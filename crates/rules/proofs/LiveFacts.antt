@@ -38,7 +38,7 @@ superior_k us = charted (bigs_k 8 us)
 abbrev edges : Float → Float → Float → Float → Zone
 edges d g dd gg =
     record {
-      owner_idx = 0;
+      sup_idx = 0;
       start_bar = 5;
       end_bar = 18;
       zd = d;
@@ -59,7 +59,7 @@ to_zero = chart_of (triple 1 0 1 ∷ []) (turn 0 5 ∷ turn 1 9 ∷ turn 2 0 ∷
 abbrev at_zero : Float → Float → Zone
 at_zero d dd =
     record {
-      owner_idx = 0;
+      sup_idx = 0;
       start_bar = 1;
       end_bar = 2;
       zd = d;
@@ -86,15 +86,15 @@ longer =
 pub record Facts : Type 0 where
   -- accepted, and what is left
   pub whole : on (charted K) (zone_k ∷ []) 1 ≡ 0
-  pub whole_after : after (view (keeping (charted K) (zone_k ∷ []) 1) 25) (withdraw 3) ≡ record { levels = bigs_k 8 []; zones = []; lower = []; count = 26 }
+  pub whole_after : after (view (keeping (charted K) (zone_k ∷ []) 1) 25) (withdraw 3) ≡ record { levels = bigs_k 8 []; zones = []; count = 26 }
   pub lengthened_after :
       after (view (keeping (charted (bigs_k 8 (triple 1 0 2 ∷ []))) (zone 0 5 9 14 20 14 20 1 1 9 5 ∷ []) 1) 25) (lengthen 4)
-      ≡ record { levels = K; zones = zone_k ∷ []; lower = []; count = 26 }
+      ≡ record { levels = K; zones = zone_k ∷ []; count = 26 }
   pub count_stops :
       after (view (keeping (charted K) (zone_k ∷ []) 1) 4294967295) (withdraw 3)
-      ≡ record { levels = bigs_k 8 []; zones = []; lower = []; count = 4294967295 }
+      ≡ record { levels = bigs_k 8 []; zones = []; count = 4294967295 }
   -- what a live chart shows is what the machine does
-  pub seen_built : seen (machine K 25) ≡ record { levels = K; zones = zone_k ∷ []; lower = []; count = 25 }
+  pub seen_built : seen (machine K 25) ≡ record { levels = K; zones = zone_k ∷ []; count = 25 }
   pub all_full : on (charted full) [] 0 ≡ 0
   pub nothing_there : live_refusal (keeping (charted (levels [] [] [] [])) [] 0) (withdraw 3) ≡ 7
   -- the call's own numbers come behind 21
@@ -102,11 +102,11 @@ pub record Facts : Type 0 where
   pub before_own_number : live_refusal (keeping (charted K) [] 0) (withdraw 4) ≡ 21
   -- places behind a count are not looked at
   pub behind_levels : on longer (zone_k ∷ []) 1 ≡ 0
-  pub behind_levels_after : after (view (keeping longer (zone_k ∷ []) 1) 25) (withdraw 3) ≡ record { levels = bigs_k 8 []; zones = []; lower = []; count = 26 }
+  pub behind_levels_after : after (view (keeping longer (zone_k ∷ []) 1) 25) (withdraw 3) ≡ record { levels = bigs_k 8 []; zones = []; count = 26 }
   pub behind_zones : on (charted K) (zone_k ∷ edges nan nan nan nan ∷ []) 1 ≡ 0
   pub behind_zones_view :
       view (keeping (charted K) (zone_k ∷ edges nan nan nan nan ∷ []) 1) 25
-      ≡ record { levels = K; zones = zone_k ∷ []; lower = []; count = 25 }
+      ≡ record { levels = K; zones = zone_k ∷ []; count = 25 }
   -- a count above its level's size
   pub strokes_513 : on (counted 513 8 8 1 K) (zone_k ∷ []) 1 ≡ 21
   pub segments_257 : on (counted 8 257 8 1 K) (zone_k ∷ []) 1 ≡ 21

@@ -1,19 +1,21 @@
 -- Machine, live chart, calls and answers on levels of different lengths, so that no level stands for another. Values from 01. Assumes nothing.
 use Prim.Native.Nat.{ℕ}
-use mathlib.Core.Path.{◌≡◌, refl}
-use mathlib.Core.Bool.{true, false, not}
+use mathlib.Core.Path.{◌≡◌, refl, ap}
+use mathlib.Core.Bool.{Bool, true, false, not, ◌||◌}
 use mathlib.Core.List.{List, [], ◌∷◌, ◌++◌}
 use lib.ListN.{take}
+use Rattle.chart.specs.declared.Chart.{Chart}
 use Rattle.chart.specs.declared.Triple.{Triple}
 use Rattle.chart.specs.declared.Zone.{Zone}
 use Rattle.rules.specs.Answer.{refused, given, rows_answer}
 use Rattle.rules.specs.Records.{Levels, levels_of}
+use Rattle.rules.specs.Zones.{overlap_zones}
 use Rattle.rules.specs.Machine.{add_stroke, add_superior, lengthen, withdraw, derive_bigs, derive_superiors, refusal, run}
 use Rattle.rules.specs.Live.{live_refusal}
-use Rattle.rules.specs.Refusals.{same_zones, other_zones}
+use Rattle.rules.specs.Refusals.{bad_chart, broken_levels, same_zones, bad_live}
 use Rattle.rules.specs.Calls.{segment_classes_call}
 use Rattle.rules.proofs.Computing.{everything}
-use Rattle.rules.proofs.Charts.{price, triple, one_each, levels, counted, charted, keeping, keeping_both, zone, class}
+use Rattle.rules.proofs.Charts.{price, triple, one_each, levels, counted, charted, keeping, zone, class}
 use Rattle.rules.proofs.ChartK.{K, zone_k}
 use Rattle.rules.proofs.MachineFacts.{machine, priced, bigs_k, small, five}
 
@@ -31,11 +33,6 @@ four = levels (take 4 K.strokes) (take 4 K.segments) (take 4 K.bigs) (take 4 K.b
 -- the answer to a withdrawal of the last superior, of a chart that keeps these zones, the first n
 abbrev on : Levels → List Zone → ℕ → ℕ
 on c zs n = live_refusal (keeping (charted c) zs n) (withdraw 3)
-
--- the same of `uneven`, whose first and third big have a lower zone
-abbrev on_uneven : List Triple → ℕ
-on_uneven us =
-    live_refusal (keeping_both (charted (uneven us)) [] 0 (zone 0 5 9 14 20 14 20 1 1 9 5 ∷ zone 2 25 29 26 30 26 30 5 1 29 25 ∷ []) 2) (withdraw 3)
 
 -- K with a second superior, and its zone as one of superior h
 abbrev two_superiors : Levels
@@ -62,9 +59,9 @@ pub record Facts : Type 0 where
   -- a superior's last is a big, not a segment
   pub superior_over_bigs : refusal (uneven (triple 1 0 0 ∷ [])) (add_superior (triple 0 1 3)) ≡ 5
   pub lengthen_over_bigs : refusal (uneven (triple 1 0 0 ∷ [])) (lengthen 3) ≡ 5
-  pub live_superior_over_bigs : on_uneven (triple 1 0 3 ∷ []) ≡ 21
+  pub live_superior_over_bigs : on (uneven (triple 1 0 3 ∷ [])) [] 0 ≡ 21
   -- and a big's last a segment, not a big
-  pub live_big_over_segments : on_uneven (triple 1 0 0 ∷ []) ≡ 0
+  pub live_big_over_segments : on (uneven (triple 1 0 0 ∷ [])) [] 0 ≡ 0
   -- a call changes its own level alone
   pub add_stroke_alone :
       run (machine (uneven (triple 1 0 0 ∷ [])) 20) (add_stroke (priced 1 38 40 (price 19) (price 22)) ∷ [])
@@ -94,13 +91,23 @@ pub record Facts : Type 0 where
   pub kept_of_its_superior : on two_superiors (zone_k ∷ second 1 ∷ []) 2 ≡ 0
   pub kept_superior_before : on two_superiors (zone_k ∷ second 0 ∷ []) 2 ≡ 21
   -- 256 kept zones are not refused for their number, whatever the chart
-  pub kept_256 : (places rule : List Zone) → other_zones places 256 rule ≡ not (same_zones (take 256 places) rule)
+  pub kept_256 :
+      (c : Chart) (places : List Zone) → bad_live (keeping c places 256)
+      ≡ (bad_chart c || broken_levels (levels_of c) || not (same_zones (take 256 places) (overlap_zones (levels_of c))))
 
 -- ---- proofs
 
-kept : (places rule : List Zone) → other_zones places 256 rule ≡ not (same_zones (take 256 places) rule)
-unfolding other_zones
-kept places rule = refl
+or-false : (b : Bool) → (b || false) ≡ b
+or-false true = refl
+or-false false = refl
+
+kept :
+    (c : Chart) (places : List Zone) → bad_live (keeping c places 256)
+    ≡ (bad_chart c || broken_levels (levels_of c) || not (same_zones (take 256 places) (overlap_zones (levels_of c))))
+unfolding bad_live
+kept c places =
+    ap (λ (b : Bool). b || not (same_zones (take 256 places) (overlap_zones (levels_of c))))
+    (or-false (bad_chart c || broken_levels (levels_of c)))
 
 pub facts : Facts
 unfolding everything

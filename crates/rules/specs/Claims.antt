@@ -1,5 +1,5 @@
--- What demand 3 claims of a chart and of its marks, and of 02 requests 6 and 13 of zones and request 7 of files. Assumes nothing.
-use Rattle.std.specs.Prelude.{ℕ, ◌≤◌, ◌<◌, ◌≡◌, ◌≢◌, true, cond, length, Float}
+-- What demand 3 claims of a chart and of its marks, and of 02 request 6 of zones and request 7 of files. Assumes nothing.
+use Rattle.std.specs.Prelude.{ℕ, ◌≤◌, ◌<◌, ◌≡◌, ◌≢◌, true, cond, Float}
 use mathlib.Core.List.{List, Memᴰ}
 use Rattle.std.proofs.Math.Option.{some}
 use Rattle.std.proofs.Math.ListN.{get_elem?}
@@ -11,7 +11,7 @@ use Rattle.chart.specs.declared.Range.{Range}
 use Rattle.chart.specs.declared.Range.TheVariants.{Found}
 use Rattle.chart.specs.declared.Zone.{Zone}
 use Rattle.chart.specs.declared.Ground.{Ground}
-use Rattle.chart.specs.declared.Ground.TheVariants as ground
+use Rattle.chart.specs.declared.Ground.TheVariants as of_ground
 use Rattle.chart.specs.declared.ThirdMark.{ThirdMark}
 use Rattle.chart.specs.declared.NMark.{NMark}
 use Rattle.rules.specs.Records.{is_up, Levels, Quotes}
@@ -55,7 +55,7 @@ pub record MemberAt (zones : List Zone) (members : Zone → List ℕ) (j n : ℕ
 pub record OneZone (zones : List Zone) (members : Zone → List ℕ) (h j : ℕ) : Type 0 where
   pub place : ℕ
   pub there : MemberAt zones members j place
-  pub its_owner : there.zone.owner_idx ≡ h
+  pub its_owner : there.zone.sup_idx ≡ h
   pub only : (n : ℕ) → MemberAt zones members j n → n ≡ place
   pub once : (i k : ℕ) → get_elem? (members there.zone) i ≡ some j → get_elem? (members there.zone) k ≡ some j → i ≡ k
 
@@ -94,26 +94,12 @@ pub record Extremes (range : Triple → Range) (level : List Triple) (members : 
   pub low : Extreme range level (members z) (λ (s : Span). s.low) (λ (s : Span). s.low_bar) z.dd z.dd_bar
   pub high : Extreme range level (members z) (λ (s : Span). s.high) (λ (s : Span). s.high_bar) z.gg z.gg_bar
 
--- ---- all that is claimed of zones
-
--- Of the zones of owners over the records of a level, with a range for each record: superiors over bigs, or bigs over segments
-pub record Covered (range : Triple → Range) (level owners : List Triple) (members : Zone → List ℕ) (zones : List Zone) : Type 0 where
-  -- "Each opposing big segment of a superior is a member of exactly one zone", and that zone is the superior's
-  pub one_zone : (h j : ℕ) → Opposes level owners h j → OneZone zones members h j
-  -- a zone has as many members as it says, and each is an opposing record of its owner
-  pub members_are : (z : Zone) → Memᴰ z zones → length (members z) ≡ z.members
-  pub members_oppose : (z : Zone) → Memᴰ z zones → (j : ℕ) → Memᴰ j (members z) → Opposes level owners z.owner_idx j
-  -- "Every zone has dd ≤ zd ≤ zg ≤ gg, and one of two or more members has zd < zg"
-  pub edges : (z : Zone) → Memᴰ z zones → Edges z
-  -- 02, request 6: "Every zone passes this on as the bar of dd and the bar of gg, the smallest bar number among its members on equal prices"
-  pub extremes : (z : Zone) → Memᴰ z zones → Extremes range level members z
-
 -- ---- marks
 
 -- the price that a ground names: the zone edge that was beaten, or the price C of an anchor
 abbrev pub named : Ground → Float
-named (ground.Zone p) = p
-named (ground.Anchor p) = p
+named (of_ground.Zone p) = p
+named (of_ground.Anchor p) = p
 
 -- a third mark is strictly beyond the ground it names, a buy above and a sell below, and its price is the lent one of its side at its bar
 pub record Beyond (q : Quotes) (m : ThirdMark) : Type 0 where
@@ -138,8 +124,8 @@ pub record OfAnchor (c : Levels) (m : ThirdMark) (p : Float) : Type 0 where
 
 -- a third mark can be traced to the ground it names
 abbrev pub From : Levels → ThirdMark → Ground → Type 0
-From c m (ground.Zone p) = OfZone c m p
-From c m (ground.Anchor p) = OfAnchor c m p
+From c m (of_ground.Zone p) = OfZone c m p
+From c m (of_ground.Anchor p) = OfAnchor c m p
 
 abbrev pub Traced : Levels → ThirdMark → Type 0
 Traced c m = From c m m.ground

@@ -48,7 +48,7 @@ pub record Named : Type 0 where
 unfoldable pub name_of : Option Named → Zone → Option ℕ
 name_of none z = some 0
 name_of (some k) z =
-    cond (not (eqb k.zone.owner_idx z.owner_idx)) (some 0)
+    cond (not (eqb k.zone.sup_idx z.sup_idx)) (some 0)
     (cond (lt k.zone.gg z.dd || lt z.gg k.zone.dd) (some k.next) none)
 
 unfoldable pub labels_from : Levels → Option Named → List Zone → List (List ℕ)

@@ -5,7 +5,6 @@ pub mod Answer
 pub mod Records
 pub mod Ranges
 pub mod Zones
-pub mod Split
 pub mod Machine
 pub mod Live
 pub mod Marks

@@ -8,7 +8,7 @@ use Rattle.chart.specs.declared.Zone.{Zone}
 use Rattle.chart.specs.declared.Call as code
 use Rattle.chart.specs.declared.Call.TheVariants as variant
 use Rattle.rules.specs.Records.{Levels}
-use Rattle.rules.specs.Zones.{overlap_zones, lower_zones_of}
+use Rattle.rules.specs.Zones.{overlap_zones}
 use Rattle.rules.specs.Classes.{segment_classes, big_classes}
 use Rattle.rules.specs.Refusals.{stroke_refusal, triple_refusal, lengthen_refusal, withdraw_refusal, derive_refusal}
 
@@ -45,10 +45,6 @@ empty = record { levels = record { strokes = []; segments = []; bigs = []; super
 -- its zones are the overlap rule applied afresh
 unfoldable pub zones : Machine → List Zone
 zones m = overlap_zones m.levels
-
--- and so are its lower zones
-unfoldable pub lower : Machine → List Zone
-lower m = lower_zones_of m.levels
 
 -- a condition, read on the machine's lists, that refuses the call: the first such number
 unfoldable pub refusal : Levels → Call → ℕ

@@ -11,7 +11,7 @@ use Rattle.chart.specs.declared.Triple.{Triple}
 use Rattle.chart.specs.declared.Range.TheVariants.{Found, Missing}
 use Rattle.chart.specs.declared.Zone.{Zone}
 use Rattle.chart.specs.declared.Ground.{Ground}
-use Rattle.chart.specs.declared.Ground.TheVariants as ground
+use Rattle.chart.specs.declared.Ground.TheVariants as of_ground
 use Rattle.chart.specs.declared.ThirdMark.{ThirdMark}
 use Rattle.chart.specs.declared.NMark.{NMark}
 use Rattle.rules.specs.Lists.{keep, find, any, before, behind, and_then, collect, each}
@@ -45,7 +45,7 @@ price_at q buy bar = get_or (side q buy) bar nan
 
 -- the superior h of zone z. The default is never met for a zone of `overlap_zones c`: its superior is one of the chart's
 unfoldable pub superior_of : Levels → Zone → Triple
-superior_of c z = get_or c.superiors z.owner_idx (record { direction = 0; first = 0; last = 0 })
+superior_of c z = get_or c.superiors z.sup_idx (record { direction = 0; first = 0; last = 0 })
 
 -- Start at the first big of h whose start bar ≥ z's end bar, e; if none, one past h's last. Here h's bigs are the next n, and what is
 -- given is the bigs from the start on: with none of h's left (n is zero), those behind h's last. A big whose range is missing has no start
@@ -62,7 +62,7 @@ leaving c e (suc n) (b ∷ bs) =
 unfoldable pub reaches_zone : List Zone → Zone → ℕ → Bool
 reaches_zone zs z bar =
     any
-    (λ (y : Zone). not (eqb y.owner_idx z.owner_idx) && ltb z.end_bar y.start_bar && leb y.start_bar bar)
+    (λ (y : Zone). not (eqb y.sup_idx z.sup_idx) && ltb z.end_bar y.start_bar && leb y.start_bar bar)
     zs
 
 -- a superior's end, as the stroke that ends there: taken where first ≤ last, last is a big and its last stroke exists
@@ -74,7 +74,7 @@ unfoldable pub reversal : Levels → Zone → Option Stroke
 reversal c z =
     find (λ (s : Stroke). ltb z.end_bar s.end_bar)
     (collect (superior_end c)
-    (keep (λ (s : Triple). not (eqb s.direction (superior_of c z).direction)) (drop (suc z.owner_idx) c.superiors)))
+    (keep (λ (s : Triple). not (eqb s.direction (superior_of c z).direction)) (drop (suc z.sup_idx) c.superiors)))
 
 -- a bar ≥ the end bar of such a stroke, if there is one
 unfoldable pub reaches : Option Stroke → ℕ → Bool
@@ -122,7 +122,7 @@ unfoldable pub zone_third : Levels → Quotes → List Zone → Zone → List Th
 zone_third c q zs z =
     elim (find (beats q (side_of c z) (edge_of c z)) (scanned c zs z)) [
       | none ↦ []
-      | some bar ↦ third_at q (side_of c z) (ground.Zone (edge_of c z)) bar ∷ []
+      | some bar ↦ third_at q (side_of c z) (of_ground.Zone (edge_of c z)) bar ∷ []
     ]
 
 -- When superior 0 starts after big 0, each earlier big with an end point is an anchor: the last strokes of those
@@ -157,7 +157,7 @@ anchor_third c q buy a =
       | some p ↦
           elim (find (beats q buy p) (anchor_bars c buy a)) [
             | none ↦ []
-            | some bar ↦ third_at q buy (ground.Anchor p) bar ∷ []
+            | some bar ↦ third_at q buy (of_ground.Anchor p) bar ∷ []
           ]
     ]
 
@@ -197,7 +197,7 @@ insert_bar (x ∷ xs) b =
 
 -- the bars of all pairs that the scans of superior h's zones meet, hit or not, made unique and sorted
 unfoldable pub scanned_bars : Levels → List Zone → ℕ → List ℕ
-scanned_bars c zs h = foldl insert_bar [] (each (scanned c zs) (keep (λ (z : Zone). eqb z.owner_idx h) zs))
+scanned_bars c zs h = foldl insert_bar [] (each (scanned c zs) (keep (λ (z : Zone). eqb z.sup_idx h) zs))
 
 -- there is an order-0 mark of a side at the bar
 unfoldable pub zero_at : List ThirdMark → Bool → ℕ → Bool

@@ -104,7 +104,7 @@ same_price a b = eqb (to_bits binary64 a) (to_bits binary64 b)
 
 unfoldable pub same_zone : Zone → Zone → Bool
 same_zone a b =
-    eqb a.owner_idx b.owner_idx && eqb a.start_bar b.start_bar && eqb a.end_bar b.end_bar
+    eqb a.sup_idx b.sup_idx && eqb a.start_bar b.start_bar && eqb a.end_bar b.end_bar
     && same_price a.zd b.zd && same_price a.zg b.zg && same_price a.dd b.dd && same_price a.gg b.gg
     && eqb a.first_member b.first_member && eqb a.members b.members && eqb a.dd_bar b.dd_bar
     && eqb a.gg_bar b.gg_bar
@@ -115,30 +115,20 @@ same_zones [] (b ∷ bs) = false
 same_zones (a ∷ as') [] = false
 same_zones (a ∷ as') (b ∷ bs) = same_zone a b && same_zones as' bs
 
--- kept zones, the first n of 256 places, are other than those of a rule
-unfoldable pub other_zones : List Zone → ℕ → List Zone → Bool
-other_zones zones n rule = ltb 256 n || not (same_zones (take n zones) rule)
-
--- what 21 of a live call looks at: a chart, and the zones and the lower zones that it keeps, the first `zone_count` and `lower_count` of 256 places each
+-- what 21 of a live call looks at: a chart, and the zones that it keeps, the first `zone_count` of 256 places
 pub record LiveData : Type 0 where
   pub chart : Chart
   pub zones : List Zone
   pub zone_count : ℕ
-  pub lower : List Zone
-  pub lower_count : ℕ
 
 abbrev pub kept_zones : LiveData → List Zone
 kept_zones b = take b.zone_count b.zones
 
-abbrev pub kept_lower : LiveData → List Zone
-kept_lower b = take b.lower_count b.lower
-
--- 21 of a live call. 02, request 13: "The live chart keeps these zones too, so .. 21 their differing from this rule"
+-- 21 of a live call
 unfoldable pub bad_live : LiveData → Bool
 bad_live b =
-    bad_chart b.chart || broken_levels (levels_of b.chart)
-    || other_zones b.zones b.zone_count (overlap_zones (levels_of b.chart))
-    || other_zones b.lower b.lower_count (lower_zones_of (levels_of b.chart))
+    bad_chart b.chart || broken_levels (levels_of b.chart) || ltb 256 b.zone_count
+    || not (same_zones (kept_zones b) (overlap_zones (levels_of b.chart)))
 
 -- ---- the machine's calls
 

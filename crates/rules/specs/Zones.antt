@@ -1,7 +1,6 @@
 -- Zones of superiors over bigs, by 01's overlap rule. The rule asks of a superior only its direction, first and last, and of a big only its
 -- direction and range; so it is stated for owners over the records of any level, with the range as a parameter. Read "superior" for owner,
--- "bigs" for level and "big" for record: at the end, `overlap_zones` is the rule for these. 02, request 13: "The overlap rule is the same: opposing
--- segments of each big": `lower_zones_of` is the rule with bigs for owners and segments for records. Assumes nothing.
+-- "bigs" for level and "big" for record: at the end, `overlap_zones` is the rule for these. Assumes nothing.
 use Rattle.std.specs.Prelude.{ℕ, suc, ◌-◌, min, Bool, true, false, cond, ◌&&◌, List, [], ◌∷◌, ◌++◌, map, length, take, drop, eqb, leb, ltb, Float}
 use Rattle.std.proofs.Math.Option.{none, some}
 use Rattle.std.proofs.Math.ListN.{get_elem?}
@@ -45,7 +44,7 @@ high_bar_of p a q b = cond (lt q p) a (cond (lt p q) b (min a b))
 unfoldable pub begin : ℕ → Member → Zone
 begin h m =
     record {
-      owner_idx = h;
+      sup_idx = h;
       start_bar = m.span.start_bar;
       end_bar = m.span.end_bar;
       zd = m.span.low;
@@ -70,7 +69,7 @@ joins z s =
 unfoldable pub join : Zone → Span → Zone
 join z s =
     record {
-      owner_idx = z.owner_idx;
+      sup_idx = z.sup_idx;
       start_bar = z.start_bar;
       end_bar = s.end_bar;
       zd = cond (eqb z.members 1) (higher z.zd s.low) z.zd;
@@ -86,7 +85,7 @@ join z s =
 -- the zones of a run z that is under way and of the opposing bigs that follow: one that does not join begins the next run
 unfoldable pub cut : Zone → List Member → List Zone
 cut z [] = z ∷ []
-cut z (m ∷ ms) = elim (joins z m.span) [ true ↦ cut (join z m.span) ms | false ↦ z ∷ cut (begin z.owner_idx m) ms ]
+cut z (m ∷ ms) = elim (joins z m.span) [ true ↦ cut (join z m.span) ms | false ↦ z ∷ cut (begin z.sup_idx m) ms ]
 
 -- a superior's opposing bigs, in order, are cut into runs
 unfoldable pub runs : ℕ → List Member → List Zone
@@ -116,7 +115,7 @@ zones_from range level h (s ∷ ss) = zones_of range level h s ++ zones_from ran
 -- the members of a zone are that many opposing bigs of its superior, in order from the first
 unfoldable pub members_in : (Triple → Range) → List Triple → List Triple → Zone → List ℕ
 members_in range level owners z =
-    elim (get_elem? owners z.owner_idx) [
+    elim (get_elem? owners z.sup_idx) [
       | none ↦ []
       | some s ↦
           take z.members (keep (λ (j : ℕ). leb z.first_member j) (map (λ (m : Member). m.index) (opposing_of range level s)))

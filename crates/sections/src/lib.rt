@@ -1,5 +1,8 @@
 // What `report` prints of a chart file and a bars file: a section for each call that is built. Of printing only safety is proved; each row comes from a
 // proved call.
+
+#![tactic(auto)]
+
 ghost use Rattle.std.specs.Prelude.{◌<◌};
 
 use chart::Chart;
@@ -33,13 +36,6 @@ fn print_ranges(chart: Chart) {
 fn print_zones(chart: Chart) {
     let found = zones::detect_bigseg_zhongshus_by_overlap(chart);
     printing::print_head(b"ZONES", found.number, found.count);
-    let rows = found.rows;
-    printing::print_zones(b"", rows, found.count);
-}
-
-fn print_lower_zones(chart: Chart) {
-    let found = lower_zones::detect_segment_zhongshus_by_overlap(chart);
-    printing::print_head(b"LOWER", found.number, found.count);
     let rows = found.rows;
     printing::print_zones(b"", rows, found.count);
 }
@@ -128,7 +124,6 @@ fn print_sections(chart: Chart, highs: &[f64], lows: &[f64]) {
     print_first_buys(chart, 1);
     print_first_sells(chart, 0);
     print_first_sells(chart, 1);
-    print_lower_zones(chart);
 }
 
 // The sections of a chart, of whose file so many BR records were passed over, and a bars file of at most 2,048 bars; or `refused N at P` alone.

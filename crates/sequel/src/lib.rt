@@ -1,5 +1,8 @@
 // Demand 3 of one run: a log of calls replayed from a chart with nothing in it, then third and 3+N marks of the chart that it leaves, over the
 // bars of the log.
+
+#![tactic(auto)]
+
 ghost use Rattle.sequel.specs.After.{After};
 
 use mark_rows::NRows;
@@ -7,7 +10,7 @@ use playback::Replayed;
 use third::ThirdRows;
 
 // A replay, and the answers of both calls for marks behind it. Where the log is bad, these are of a chart with nothing in it, and no bars.
-#[derive(Drop)]
+#[derive(Clone, Copy)]
 pub struct Sequel {
     pub run: Replayed,
     pub thirds: ThirdRows,

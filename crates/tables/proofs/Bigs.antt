@@ -91,17 +91,15 @@ beside_lower s e = go (lt e s) refl
     go true h = lt_never e ∙ sym (lt_once e s h)
     go false h = refl
 
-pub spanned_ends : (s e : Stroke) (t u v : Bool) → EndsAt (cond t (spanned (held_if u s) (held_if v e)) Missing) e.end_price
-unfolding spanned
-spanned_ends s e false u v = tt
-spanned_ends s e true false v = tt
-spanned_ends s e true true false = tt
-spanned_ends s e true true true =
-    (rw (beside_higher s.start_price e.end_price), rw (beside_lower s.start_price e.end_price))
-
 pub range_ends : (m n : ℕ) (b a z : Triple) (s e : Stroke) → EndsAt (range_from m n b a z s e) e.end_price
-unfolding range_from stroke_if
-range_ends m n b a z s e = spanned_ends s e (leb b.first b.last) (ltb b.first m && ltb a.first n) (ltb b.last m && ltb z.last n)
+unfolding range_from stroke_if spanned
+range_ends m n b a z s e = go (leb b.first b.last) (ltb b.first m && ltb a.first n) (ltb b.last m && ltb z.last n)
+  where
+    go : (t u v : Bool) → EndsAt (cond t (spanned (held_if u s) (held_if v e)) Missing) e.end_price
+    go false u v = tt
+    go true false v = tt
+    go true true false = tt
+    go true true true = (rw (beside_higher s.start_price e.end_price), rw (beside_lower s.start_price e.end_price))
 
 -- ---- the bigs of a level
 

@@ -12,7 +12,7 @@ use Rattle.tables.proofs.Rows.{row_is}
 abbrev pub no_zone : Zone
 no_zone =
     record {
-      owner_idx = 0;
+      sup_idx = 0;
       start_bar = 0;
       end_bar = 0;
       zd = nan;
@@ -30,9 +30,9 @@ module _ (zs : List Zone) (n : ℕ) (zb : List (List ℕ)) (zp : List (List Floa
   pub zone-is : zone_in (get_or zb i []) (get_or zp i []) ≡ get_or zs i no_zone
   zone-is = row_is zone_in (λ (z : Zone). z) n zb zp [] [] zs no_zone t.count (t.are ∙ sym (map-id zs)) i h
 
-  pub owner_of : get_or (get_or zb i []) 0 0 ≡ (get_or zs i no_zone).owner_idx
+  pub owner_of : get_or (get_or zb i []) 0 0 ≡ (get_or zs i no_zone).sup_idx
   unfolding zone_in
-  owner_of = ap (λ (z : Zone). z.owner_idx) zone-is
+  owner_of = ap (λ (z : Zone). z.sup_idx) zone-is
 
   pub start_of : get_or (get_or zb i []) 1 0 ≡ (get_or zs i no_zone).start_bar
   unfolding zone_in

@@ -137,7 +137,7 @@ FillsSups n superiors m bars sups =
 unfoldable pub zone_in : List ℕ → List Float → Zone
 zone_in row prices =
     record {
-      owner_idx = get_or row 0 0;
+      sup_idx = get_or row 0 0;
       start_bar = get_or row 1 0;
       end_bar = get_or row 2 0;
       zd = get_or prices 0 nan;

@@ -1,10 +1,13 @@
-// Tables that stand for the segments, bigs, superiors and zones of a chart. A table is an array of rows of numbers or of prices, which can be lent,
+// Tables that stand for the bigs, superiors and zones of a chart. A table is an array of rows of numbers or of prices, which can be lent,
 // where an array of records would be copied for each use. A row has, of
-// - a big, or a segment with no end point: direction, 1 where the range is there or else 0, its start and end bar, 1 where the end point is there or else 0, and its bar;
+// - a big: direction, 1 where the range is there or else 0, its start and end bar, 1 where the end point is there or else 0, and its bar;
 //   its prices: the range's low and high, and the end point's price, by which the bars of low and high are known again
-// - a superior, or a big as an owner with no end bar: direction, first, last, 1 where it has an end bar or else 0, and that
-// - a zone: owner, start and end bar, first member, members, bars of dd and gg, and a 0, so that a row has 16 bytes; its prices: zd, zg, dd,
+// - a superior: direction, first, last, 1 where it has an end bar or else 0, and that
+// - a zone: superior, start and end bar, first member, members, bars of dd and gg, and a 0, so that a row has 16 bytes; its prices: zd, zg, dd,
 //   gg.
+
+#![tactic(auto)]
+
 ghost use Rattle.std.specs.Prelude.{◌≡◌, false, [], ◌≤◌, ◌<◌, min, length, get_or};
 ghost use Rattle.chart.specs.declared.Stroke.{Stroke};
 ghost use Rattle.chart.specs.Table.{point_of};
@@ -17,7 +20,7 @@ ghost use Rattle.tables.specs.Tables.{range_in, EndsAt, point_in, point_if, Bigs
 use chart::{Chart, EndPoint, Range, Span, Stroke, Triple, Zone};
 
 // How many rows of the tables of a chart count: bigs, superiors, zones.
-#[derive(Drop)]
+#[derive(Clone, Copy)]
 pub struct Counts {
     pub bigs: usize,
     pub superiors: usize,
@@ -93,8 +96,8 @@ fn has_end(b: Triple, z: Triple, segments: u16, strokes: u16) -> u16
     1
 }
 
-// A big, or a segment, into row k: its direction and range, which ends where stroke e does, and the end point at e where `there` is not 0.
-pub fn put_big(
+// A big into row k: its direction and range, which ends where stroke e does, and the end point at e where `there` is not 0.
+fn put_big(
     k: usize,
     direction: u8,
     range: Range,
@@ -230,7 +233,7 @@ pub fn put_zone(
     ensures { PutsRow zone_in at zone zone_bars.old zone_prices.old zone_bars.new zone_prices.new }
 {
     zone_bars[at] = [
-        zone.owner_idx,
+        zone.sup_idx,
         zone.start_bar,
         zone.end_bar,
         zone.first_member,
@@ -247,7 +250,7 @@ pub fn zone_at(zone_bars: &[[u16; 8]; 256], zone_prices: &[[f64; 4]; 256], i: us
     ensures { result ≡ zone_in (get_or zone_bars.now i []) (get_or zone_prices.now i []) }
 {
     Zone {
-        owner_idx: zone_bars[i][0],
+        sup_idx: zone_bars[i][0],
         start_bar: zone_bars[i][1],
         end_bar: zone_bars[i][2],
         zd: zone_prices[i][0],

@@ -1,4 +1,7 @@
 // Bytes and numbers as text: each call puts some bytes into a lent slice from place `at` on, and gives the place behind them.
+
+#![tactic(auto)]
+
 ghost use Rattle.std.specs.Prelude.{◌≡◌, [], ◌∷◌, ◌++◌, ◌+◌, ◌≤◌, ◌<◌, length};
 ghost use Rattle.rules.specs.Text.{decimal, hex_digit, hex};
 ghost use Rattle.text.specs.Puts.{Puts, digits};

@@ -1,4 +1,7 @@
 // Third marks of a chart, over lent highs and lows.
+
+#![tactic(auto)]
+
 ghost use Rattle.std.specs.Prelude.{◌≡◌, List, [], ◌∷◌, ℕ, ◌≤◌, ◌<◌, length, get_or};
 ghost use Rattle.chart.specs.declared.ThirdMark.{ThirdMark};
 ghost use Rattle.rules.specs.Answer.{rows_answer, given, refused};
@@ -10,7 +13,7 @@ use chart::{Chart, Ground, ThirdMark};
 
 // The answer of the third-mark call: a number, and where it is 0 the first `count` rows. The rows stand first: behind the numbers they
 // would have a gap before them, and the compiler would then copy them once more.
-#[derive(Drop)]
+#[derive(Clone, Copy)]
 pub struct ThirdRows {
     pub rows: [ThirdMark; 512],
     pub number: u8,

@@ -1,4 +1,7 @@
 // 3+N marks of a chart, over lent highs and lows.
+
+#![tactic(auto)]
+
 ghost use Rattle.std.specs.Prelude.{◌≡◌, ◌≤◌, ◌<◌, length, take, leb};
 ghost use Rattle.chart.specs.declared.Stroke.{Stroke};
 ghost use Rattle.rules.specs.Answer.{rows_answer, refused};

@@ -1,14 +1,16 @@
 // Makes one call many times on the chart in `chart.dat` over the bars in `bars.dat`, for the script oracle/timing to time, and prints a sum of the answers.
-// Arguments: the call (zones, lower, third or threen) and how many times it is made. Of this program only safety is proved.
+// Arguments: the call (zones, third or threen) and how many times it is made. Of this program only safety is proved.
+
+#![tactic(auto)]
+
 ghost use Rattle.std.specs.Prelude.{◌<◌};
 
 use chart::Chart;
 
 // The call that an argument names.
-#[derive(Drop)]
+#[derive(Clone, Copy)]
 enum Call {
     Zones,
-    Lower,
     Third,
     Threen,
     Unknown,
@@ -17,8 +19,6 @@ enum Call {
 fn call_of(name: [u8; 8]) -> Call {
     if arguments::same(name, *b"zones\0\0\0") {
         Call::Zones
-    } else if arguments::same(name, *b"lower\0\0\0") {
-        Call::Lower
     } else if arguments::same(name, *b"third\0\0\0") {
         Call::Third
     } else if arguments::same(name, *b"threen\0\0") {
@@ -51,13 +51,6 @@ fn zones_turn(chart: Chart) -> u16 {
     value_of(found.count, rows[m].start_bar)
 }
 
-fn lower_turn(chart: Chart) -> u16 {
-    let found = lower_zones::detect_segment_zhongshus_by_overlap(chart);
-    let m = printing::shown(found.count, 256) / 2;
-    let rows = found.rows;
-    value_of(found.count, rows[m].start_bar)
-}
-
 fn third_turn(chart: Chart, highs: &[f64], lows: &[f64]) -> u16 {
     let found = third::bigseg_third_marks_all_zhongshu(chart, highs, lows);
     let m = printing::shown(found.count, 512) / 2;
@@ -75,7 +68,6 @@ fn threen_turn(chart: Chart, highs: &[f64], lows: &[f64]) -> u16 {
 fn turn_of(call: Call, chart: Chart, highs: &[f64], lows: &[f64]) -> u16 {
     match call {
         Call::Zones => zones_turn(chart),
-        Call::Lower => lower_turn(chart),
         Call::Third => third_turn(chart, highs, lows),
         Call::Threen => threen_turn(chart, highs, lows),
         Call::Unknown => 0,

@@ -2,6 +2,9 @@
 // many bytes. Kinds: 1 a chart file and a bars file, reported; 2 a chart file, read and written again; 3 a log, replayed; 4 two chart files, compared;
 // 5 a bars file, read and written again. What must be printed was written by the reference, by packers and by a machine in Python (oracle/README.md).
 // Of this program only safety is proved.
+
+#![tactic(auto)]
+
 ghost use Rattle.std.specs.Prelude.{◌≡◌, ◌+◌, ◌≤◌, ◌<◌, length};
 
 fn room() -> [u8; 2097152]

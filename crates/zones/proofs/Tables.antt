@@ -39,7 +39,7 @@ module _ (h : ℕ) (z : Zone) (b : Bool) (j : ℕ) (s : Span) (y : Zone) where
   pub takes-joins : b ≡ true → joins z s ≡ true → y ≡ join z s → (y.members ≤ z.members + 1) × Takes h b z next false y
   takes-joins e q p = (omega (arith, ap (λ (x : Zone). x.members) p, join-members z s), λ ms. rw (e, p) (scan-joins h z ms next q))
 
-  pub takes-closes : b ≡ true → joins z s ≡ false → y ≡ begin z.owner_idx next → (y.members ≤ z.members + 1) × Takes h b z next true y
+  pub takes-closes : b ≡ true → joins z s ≡ false → y ≡ begin z.sup_idx next → (y.members ≤ z.members + 1) × Takes h b z next true y
   unfolding begin
   takes-closes e q p = (omega (arith, ap (λ (x : Zone). x.members) p), λ ms. rw (e, p) (scan-closes h z ms next q))
 

@@ -1,5 +1,8 @@
 // The overlap rule, once for every level: the zones of owners over the records of a level, which stand in tables; what a call on a chart
 // begins with; and the zone call.
+
+#![tactic(auto)]
+
 ghost use Rattle.std.specs.Prelude.{◌≡◌, cond, ◌≤◌, ◌<◌, ◌+◌, length};
 ghost use Rattle.rules.specs.Answer.{refused, given, rows_answer};
 ghost use Rattle.rules.specs.Records.{levels_of};
@@ -18,7 +21,7 @@ fn begin(h: u16, index: u16, span: Span) -> Zone
     ensures { result ≡ begin h (record { index = index; span = span }) }
 {
     Zone {
-        owner_idx: h,
+        sup_idx: h,
         start_bar: span.start_bar,
         end_bar: span.end_bar,
         zd: span.low,
@@ -69,7 +72,7 @@ fn join(z: Zone, s: Span) -> Zone
 {
     let second = z.members == 1;
     Zone {
-        owner_idx: z.owner_idx,
+        sup_idx: z.sup_idx,
         start_bar: z.start_bar,
         end_bar: s.end_bar,
         zd: fixed(second, price::higher(z.zd, s.low), z.zd),
@@ -84,7 +87,7 @@ fn join(z: Zone, s: Span) -> Zone
 }
 
 // The scan behind a member: the run, and whether the run before it is a zone now.
-#[derive(Drop)]
+#[derive(Clone, Copy)]
 struct Taken {
     run: Zone,
     closed: bool,
@@ -109,7 +112,7 @@ fn take_member(run: Zone, begun: bool, h: u16, index: u16, span: Span) -> Taken
         };
     }
     Taken {
-        run: begin(run.owner_idx, index, span),
+        run: begin(run.sup_idx, index, span),
         closed: true,
     }
 }
@@ -200,7 +203,7 @@ pub fn overlap(
 // ---- what a call on a chart begins with
 
 // The number that refuses the call, or 0, and how many rows of the tables count.
-#[derive(Drop)]
+#[derive(Clone, Copy)]
 pub struct Begun {
     pub number: u8,
     pub counts: Counts,
@@ -264,7 +267,7 @@ pub fn tables_of(
 
 // The answer of a zone call: a number, and where it is 0 the first `count` rows. The rows stand first: behind the numbers they would
 // have a gap before them, and the compiler would then copy them once more.
-#[derive(Drop)]
+#[derive(Clone, Copy)]
 pub struct ZoneRows {
     pub rows: [Zone; 256],
     pub number: u8,
@@ -272,7 +275,7 @@ pub struct ZoneRows {
 }
 
 // A refusal, with no rows.
-pub fn refusal(number: u8) -> ZoneRows
+fn refusal(number: u8) -> ZoneRows
     requires { 0 < number }
     ensures { rows_answer result.number result.count result.rows ≡ refused number }
 {
@@ -284,7 +287,7 @@ pub fn refusal(number: u8) -> ZoneRows
 }
 
 // The first n rows of the tables as the answer of a call.
-pub fn rows_of(n: usize, zb: &[[u16; 8]; 256], zp: &[[f64; 4]; 256]) -> ZoneRows
+fn rows_of(n: usize, zb: &[[u16; 8]; 256], zp: &[[f64; 4]; 256]) -> ZoneRows
     requires { (n ≤ 256) × Wide zb.now zp.now }
     ensures { rows_answer result.number result.count result.rows ≡ given (zones_in n zb.now zp.now) }
 {

@@ -8,7 +8,7 @@ use Rattle.laws.proofs.Arrays.{length_via, Sized, sized_via}
 use Rattle.laws.proofs.Answers.{counted}
 use Rattle.laws.proofs.Levels.{above, big}
 use Rattle.live.specs.Did.{data_of}
-use Rattle.live.proofs.Outcomes.{passes, answer-is, did-not, accepts, ready}
+use Rattle.live.proofs.Outcomes.{passes, answer-is, did-not, accepts}
 use Rattle.live.proofs.Levelled.{adding-refused, adding-room, adding-does}
 use Rattle.live.proofs.Live.add_big.Statement.{statement}
 use Rattle.live.proofs.Live.add_big.Tie as tie
@@ -37,9 +37,6 @@ element-set-from-t c = adding-room _ (sized (start c.before)) (above big) _ (acc
 add-chart : tie.Need-overflow-add-chart
 add-chart c = omega (arith, adding-room _ (sized (start c.before)) (above big) _ (accepts _ _ (zero c)))
 
-renewed-requires : tie.Need-renewed-requires
-renewed-requires c κs = ready _ _ _ (zero c) (adding-does _ (sized (start c.before)) (above big) _ (accepts _ _ (zero c)))
-
 returns : tie.Need-returns
 returns c =
     let o = c.before in
@@ -52,4 +49,4 @@ pub add-big-spec : {M : Type 1} → statement M
 add-big-spec =
     tie.close
     (tie.spec (λ c κs. search rules) triple-refusal-requires (λ c. search rules) (λ c. search rules) element-set-from-t add-chart
-    renewed-requires returns returns-2)
+    (λ c κs. search rules) returns returns-2)

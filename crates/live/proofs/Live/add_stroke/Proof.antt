@@ -9,7 +9,7 @@ use Rattle.laws.proofs.Arrays.{length_via, Sized, sized_via}
 use Rattle.laws.proofs.Answers.{counted, room}
 use Rattle.laws.proofs.Levels.{stroke}
 use Rattle.live.specs.Did.{data_of}
-use Rattle.live.proofs.Outcomes.{passes, answer-is, did-not, accepts, ready}
+use Rattle.live.proofs.Outcomes.{passes, answer-is, did-not, accepts}
 use Rattle.live.proofs.Levelled.{adding-refused, adding-room, adding-does}
 use Rattle.live.proofs.Live.add_stroke.Statement.{statement}
 use Rattle.live.proofs.Live.add_stroke.Tie as tie
@@ -39,9 +39,6 @@ element-set-from-s c = adding-room _ (sized (start c.before)) stroke _ (accepts 
 add-chart : tie.Need-overflow-add-chart
 add-chart c = omega (arith, adding-room _ (sized (start c.before)) stroke _ (accepts _ _ (zero c)))
 
-renewed-requires : tie.Need-renewed-requires
-renewed-requires c κs = ready _ _ _ (zero c) (adding-does _ (sized (start c.before)) stroke _ (accepts _ _ (zero c)))
-
 returns : tie.Need-returns
 returns c =
     let o = c.before in
@@ -54,4 +51,4 @@ pub add-stroke-spec : {M : Type 1} → statement M
 add-stroke-spec =
     tie.close
     (tie.spec (λ c κs. search rules) stroke-refusal-requires (λ c. search rules) (λ c. search rules) element-set-from-s add-chart
-    renewed-requires returns returns-2)
+    (λ c κs. search rules) returns returns-2)

@@ -13,7 +13,7 @@ use Rattle.laws.proofs.Arrays.{length_via, Sized, sized_via}
 use Rattle.laws.proofs.Answers.{counted}
 use Rattle.laws.proofs.Levels.{above, big, as_long}
 use Rattle.live.specs.Did.{data_of}
-use Rattle.live.proofs.Outcomes.{answer-is, did-not, accepts, ready}
+use Rattle.live.proofs.Outcomes.{answer-is, did-not, accepts}
 use Rattle.live.proofs.Derives.{Found, bigs-found, bigs-does}
 use Rattle.live.proofs.Live.derive_bigs.Statement.{statement}
 use Rattle.live.proofs.Live.derive_bigs.Tie as tie
@@ -46,12 +46,6 @@ few c = let long : length c.classify-big-segments.result.rows ≡ 256 = search (
 triples-of-requires : tie.Need-triples-of-requires
 triples-of-requires c κs = few c.before
 
-renewed-requires : tie.Need-renewed-requires
-renewed-requires c κs =
-    let o = c.before.before in
-    let accepted = zero o.before in
-    ready _ _ _ accepted (bigs-does _ _ (accepts _ _ accepted) _ _ _ (few o) (found o).same c.triples-of.ensures)
-
 returns : tie.Need-returns
 returns c =
     let made = c.before in
@@ -66,4 +60,4 @@ returns-2 c = did-not _ _ _ (number_is c.before) c.if2.false
 pub derive-bigs-spec : {M : Type 1} → statement M
 derive-bigs-spec =
     tie.close
-    (tie.spec (λ c κs. search rules) (λ c κs. search rules) (λ c κs. search rules) triples-of-requires renewed-requires returns returns-2)
+    (tie.spec (λ c κs. search rules) (λ c κs. search rules) (λ c κs. search rules) triples-of-requires (λ c κs. search rules) returns returns-2)

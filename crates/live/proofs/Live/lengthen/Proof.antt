@@ -8,7 +8,7 @@ use Rattle.rules.specs.Live.{live_refusal}
 use Rattle.laws.proofs.Arrays.{length_via, Sized, sized_via}
 use Rattle.laws.proofs.Answers.{counted}
 use Rattle.live.specs.Did.{data_of}
-use Rattle.live.proofs.Outcomes.{passes, answer-is, did-not, accepts, ready}
+use Rattle.live.proofs.Outcomes.{passes, answer-is, did-not, accepts}
 use Rattle.live.proofs.Levelled.{lengthen-refused}
 use Rattle.live.proofs.Ends.{some-superior, lengthen-does}
 use Rattle.live.proofs.Live.lengthen.Statement.{statement}
@@ -42,9 +42,6 @@ sub-n c = there c
 way-write-given-chart : tie.Need-way-write-given-chart
 way-write-given-chart c = (omega (arith, there c, (counted _ (accepts _ _ (zero c)).good).superiors), tt)
 
-renewed-requires : tie.Need-renewed-requires
-renewed-requires c κs = let o = c.before in ready _ _ _ (zero o) (lengthen-does _ (sized (start o.before)) _ (accepts _ _ (zero o)) _)
-
 returns : tie.Need-returns
 returns c =
     let o = c.before.before in
@@ -57,4 +54,4 @@ pub lengthen-spec : {M : Type 1} → statement M
 lengthen-spec =
     tie.close
     (tie.spec (λ c κs. search rules) lengthen-refusal-requires sub-n (λ c. search rules) (λ c. search rules) way-write-given-chart
-    renewed-requires returns returns-2)
+    (λ c κs. search rules) returns returns-2)

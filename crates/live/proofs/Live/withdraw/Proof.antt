@@ -5,7 +5,7 @@ use Rattle.rules.specs.Machine.{withdraw, refusal}
 use Rattle.rules.specs.Live.{live_refusal}
 use Rattle.laws.proofs.Answers.{room}
 use Rattle.live.specs.Did.{data_of}
-use Rattle.live.proofs.Outcomes.{passes, answer-is, did-not, accepts, ready}
+use Rattle.live.proofs.Outcomes.{passes, answer-is, did-not, accepts}
 use Rattle.live.proofs.Live.withdraw.Statement.{statement}
 use Rattle.live.proofs.Live.withdraw.Tie as tie
 
@@ -27,9 +27,6 @@ withdraw-refusal-requires c κs = room _ (passes _ _ c.before.before.first_numbe
 shortened-requires : tie.Need-shortened-requires
 shortened-requires c κs = accepts _ _ (zero c)
 
-renewed-requires : tie.Need-renewed-requires
-renewed-requires c κs = ready _ _ _ (zero c.before) c.shortened.ensures
-
 returns : tie.Need-returns
 returns c =
     let o = c.before.before in
@@ -41,4 +38,4 @@ returns-2 c = did-not _ _ _ (number_is c.before) c.if2.false
 pub withdraw-spec : {M : Type 1} → statement M
 withdraw-spec =
     tie.close
-    (tie.spec (λ c κs. search rules) withdraw-refusal-requires shortened-requires renewed-requires returns returns-2)
+    (tie.spec (λ c κs. search rules) withdraw-refusal-requires shortened-requires (λ c κs. search rules) returns returns-2)
