@@ -1,0 +1,17 @@
+use Prim.Native.Nat.{◌-◌, ◌≤◌}
+use native.Mathlib.Omega.{arith}
+use mathlib.Core.Path.{◌≡◌, refl, ◌∙◌}
+use mathlib.Core.List.{[], ◌∷◌}
+use lib.ListN.{length}
+use types.Run.{miss}
+use borrow.Author.Rules.{rules}
+use Rattle.log.specs.Log.{Entry, spelled}
+use Rattle.log.specs.Entries.{bad_at, rest_of, EntryAt}
+use Rattle.log.proofs.Steps.{good-entry, bad_here, bad_later, bad_nowhere}
+use Rattle.call_log.proofs.bad_place.Given as goal
+
+abbrev pub invariant-loop-at : goal.invariant-loop-at
+invariant-loop-at l = (l.at ≤ length l.log) × (l.bars ≤ 2048) × (bad_at (rest_of l.log l.at l.bars) ≡ bad_at (spelled l.log))
+
+abbrev pub decreases-loop-at : goal.decreases-loop-at
+decreases-loop-at l = length l.log - l.at

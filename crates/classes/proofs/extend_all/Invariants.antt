@@ -1,0 +1,17 @@
+use Prim.Native.Nat.{◌≤◌}
+use native.Mathlib.Omega.{arith}
+use mathlib.Core.Path.{◌≡◌, sym}
+use lib.ListN.{length, length-set}
+use Rattle.laws.proofs.Arrays.{length_via}
+use Rattle.classes.specs.Items.{items_of}
+use Rattle.classes.proofs.Items.{items-length}
+use Rattle.classes.proofs.Extended.{Behind, behind-first, behind_more, behind-all}
+use borrow.Author.Rules.{rules}
+use Rattle.classes.proofs.extend_all.Given as goal
+
+abbrev pub invariant-loop-c : goal.invariant-loop-c
+invariant-loop-c l =
+    (l.c ≤ l.count) × (length l.rows ≡ 256) × (length l.initial.rows ≡ 256) × Behind (items_of l.n l.directions l.starts l.ends) l.count l.c l.stop l.initial.rows l.rows
+
+abbrev pub decreases-loop-c : goal.decreases-loop-c
+decreases-loop-c l = l.c

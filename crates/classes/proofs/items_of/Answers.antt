@@ -1,0 +1,103 @@
+-- `classes::items_of` meets its contract. The invariant: the items so far, and those of what is left of the level, are all; none is missing so far.
+-- Assumes nothing.
+use Prim.Native.Nat.{ℕ, ◌≤◌, ◌<◌, ◌-◌}
+use native.Mathlib.Omega.{arith}
+use mathlib.Core.Path.{◌≡◌, refl, sym, ap, ◌∙◌}
+use mathlib.Core.Bool.{true, cond}
+use mathlib.Core.Option.{some}
+use lib.ListN.{length, get_elem?, length-set}
+use Rattle.rules.specs.Records.{levels_of}
+use Rattle.laws.proofs.Arrays.{length_via}
+use Rattle.laws.proofs.Tests.{pick_cond}
+use Rattle.classes.specs.Items.{items_of, level_of, row_item, read_of}
+use Rattle.classes.proofs.Items.{item-more}
+use Rattle.classes.proofs.Gather.{Long, Gathering, gathering-first, gathering-all, gathering-missing, gathering-there, level-length, level-at, item-read}
+use borrow.Author.Rules.{rules}
+use Rattle.classes.proofs.items_of.Goals as goal
+
+long : (c : goal.Start) → Long c.args.chart
+long c = (search (rules, length_via), search (rules, length_via), search (rules, length_via))
+
+-- ---- places of the code
+
+abbrev start : goal.At-loop-k → goal.Start
+start c = c.before.before.before
+
+abbrev head : goal.After-chosen-t → goal.At-loop-k
+head c = c.before.before.before.before
+
+-- where t was chosen, before it was taken over strokes
+abbrev at_t : goal.After-over_strokes-u → goal.After-chosen-t
+at_t c = c.before.before.before.before.before
+
+-- where t was taken over strokes, before its item was read
+abbrev at_u : goal.After-item_from-read → goal.After-over_strokes-u
+at_u c = c.before.before.before.before.before
+
+-- the record of this turn, and its item
+there :
+    (c : goal.After-chosen-t)
+    → get_elem? (level_of (start (head c)).args.bigs (levels_of (start (head c)).args.chart)) (head c).loop-k.k ≡ some c.chosen-t.result
+there c =
+    let s = start (head c) in
+    level-at s.args.chart (long s) s.requires s.args.bigs _ _
+    (rw (head c).chosen_count-n.ensures at c.loop-k-test.true) c.chosen-t.ensures
+
+read :
+    (c : goal.After-item_from-read)
+    → read_of c.item_from-read.result
+    ≡ row_item (start (head (at_t (at_u c)))).args.bigs (levels_of (start (head (at_t (at_u c)))).args.chart) (at_t (at_u c)).chosen-t.result
+read c =
+    let u = at_u c in
+    let t = at_t u in
+    let s = start (head t) in
+    c.item_from-read.ensures
+    ∙ item-read s.args.chart (long s) s.requires s.args.bigs _ _ _ _ _ _ _
+    (head t).chosen_count-below.ensures u.within.ensures u.within-in-loop-k.ensures
+    u.over_strokes-u.ensures c.within-in-loop-k-2.ensures c.within-in-loop-k-3.ensures
+
+-- ---- needs
+
+pub loop-k-init : goal.loop-k-init
+unfolding items_of
+loop-k-init c =
+    let start = c.before.before in
+    let few : cond start.args.bigs start.args.chart.big_count start.args.chart.segment_count ≤ 256 =
+    pick_cond (λ (n : ℕ). n ≤ 256) start.args.bigs _ _ (λ e. start.requires.2) (λ e. start.requires.1) in
+    (omega (arith, c.chosen_count-n.ensures), omega arith, refl, refl, refl, refl, gathering-first _ _)
+
+pub returns-in_default : goal.returns-in_default
+returns-in_default c =
+    let t = at_t (at_u c.before.before) in
+    let inv = (head t).loop-k.invariant in
+    rw inv.5
+    (gathering-missing _ _ _ _ inv.6 _ (there t) _ (sym (read c.before.before) ∙ ap read_of c.in_default.is))
+
+pub loop-k-preserved : goal.loop-k-preserved
+loop-k-preserved c =
+    let at_read = c.before.before.before in
+    let t = at_t (at_u at_read) in
+    let got = (head t).loop-k.got in
+    let inv = (head t).loop-k.invariant in
+    let turn : (head t).loop-k.k < 256 = omega (arith, inv.0, t.loop-k-test.true) in (
+      inv.0,
+      omega (arith, t.loop-k-test.true),
+      simp length-set inv.2,
+      simp length-set inv.3,
+      simp length-set inv.4,
+      inv.5,
+      rw (item-more got.directions got.starts got.ends (head t).loop-k.k _ _ _ (omega (arith, inv.2, turn)) (omega (arith, inv.3, turn))
+          (omega (arith, inv.4, turn)))
+          (gathering-there _ _ _ _ inv.6 _ (there t) _ (sym (read at_read) ∙ ap read_of c.in-There.is)),
+    )
+
+pub returns : goal.returns
+returns c =
+    let top = c.before in
+    let s = start top in
+    let size = level-length s.args.chart (long s) s.requires s.args.bigs in
+    let n = top.chosen_count-n.ensures in
+    let all : top.loop-k.k ≡ cond s.args.bigs s.args.chart.big_count s.args.chart.segment_count =
+    omega (arith, n, top.loop-k.invariant.1, c.loop-k-test.false)
+    in
+    rw all at (gathering-all _ _ _ _ top.loop-k.invariant.6 (omega (arith, size, all)))

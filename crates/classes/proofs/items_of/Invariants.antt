@@ -1,0 +1,22 @@
+use Prim.Native.Nat.{ℕ, ◌≤◌, ◌<◌, ◌-◌}
+use native.Mathlib.Omega.{arith}
+use mathlib.Core.Path.{◌≡◌, refl, sym, ap, ◌∙◌}
+use mathlib.Core.Bool.{true, cond}
+use mathlib.Core.Option.{some}
+use lib.ListN.{length, get_elem?, length-set}
+use Rattle.rules.specs.Records.{levels_of}
+use Rattle.laws.proofs.Arrays.{length_via}
+use Rattle.laws.proofs.Tests.{pick_cond}
+use Rattle.classes.specs.Items.{items_of, level_of, row_item, read_of}
+use Rattle.classes.proofs.Items.{item-more}
+use Rattle.classes.proofs.Gather.{Long, Gathering, gathering-first, gathering-all, gathering-missing, gathering-there, level-length, level-at, item-read}
+use borrow.Author.Rules.{rules}
+use Rattle.classes.proofs.items_of.Given as goal
+
+abbrev pub invariant-loop-k : goal.invariant-loop-k
+invariant-loop-k l =
+    (l.n ≤ 256) × (l.k ≤ l.n) × (length l.got.directions ≡ 256) × (length l.got.starts ≡ 256) × (length l.got.ends ≡ 256) × (l.got.lacking ≡ true)
+    × Gathering (row_item l.bigs (levels_of l.chart)) (level_of l.bigs (levels_of l.chart)) l.k (items_of l.k l.got.directions l.got.starts l.got.ends)
+
+abbrev pub decreases-loop-k : goal.decreases-loop-k
+decreases-loop-k l = l.n - l.k

@@ -1,0 +1,6 @@
+-- `classes::over_strokes` meets its contract. Assumes nothing.
+use borrow.Author.Rules.{rules}
+use Rattle.classes.proofs.over_strokes.Goals as goal
+
+pub returns-then-bigs : goal.returns-then-bigs
+returns-then-bigs c = rw c.if-bigs.true

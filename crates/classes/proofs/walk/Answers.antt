@@ -1,0 +1,89 @@
+-- `classes::walk` meets its contract. The invariant: the rows, and the walk over what is left of the items, are the whole walk. Assumes nothing.
+use Prim.Native.Nat.{◌≤◌, ◌<◌, ◌-◌}
+use native.Mathlib.Omega.{arith}
+use mathlib.Core.Path.{◌≡◌, refl}
+use mathlib.Core.List.{List}
+use mathlib.Core.Option.{none, some}
+use lib.ListN.{length, take, get_elem?, length-set}
+use Rattle.rules.specs.Classes.{Item, walk}
+use Rattle.classes.specs.Items.{item_of, items_of}
+use Rattle.classes.proofs.Items.{items-over, item_in}
+use Rattle.laws.proofs.Arrays.{one_more}
+use Rattle.classes.proofs.Walked.{Carries, carries_first, carries-all, carries-pass, carries-none, carries-begins, carries-some}
+use borrow.Author.Tests.{not-true, not-false}
+use borrow.Author.Rules.{rules}
+use Rattle.classes.proofs.walk.Goals as goal
+
+abbrev items : goal.At-loop-i → List Item
+items c = let a = c.args in items_of a.n a.directions.now a.starts.now a.ends.now
+
+pub loop-i-init : goal.loop-i-init
+loop-i-init c = (omega arith, omega arith, refl, carries_first _ _)
+
+-- the next item
+here : (c : goal.After-item_at-x) → get_elem? (items c.before.before) c.loop-i.i ≡ some (item_of c.item_at_fact.result)
+here c = item_in _ _ _ _ _ _ c.loop-i-test.true c.item_at_fact.ensures
+
+pub loop-i-preserved-then-not-next-i : goal.loop-i-preserved-then-not-next-i
+loop-i-preserved-then-not-next-i c =
+    let at-wanted = c.before in
+    let at_item = at-wanted.before in
+    let head = at_item.before.before in (
+      omega arith,
+      omega arith,
+      head.loop-i.invariant.2,
+      carries-pass _ _ _ _ _ _ _ head.loop-i.invariant.3 _ (here at_item) _ at-wanted.wanted-now.ensures (not-true _ c.if-not-next-i.true-raw),
+    )
+
+pub loop-i-preserved-in_default : goal.loop-i-preserved-in_default
+loop-i-preserved-in_default c =
+    let at_tried = c.before.before in
+    let at-if = at_tried.before.before in
+    let at-wanted = at-if.before in
+    let at_item = at-wanted.before in
+    let head = at_item.before.before in (
+      omega arith,
+      omega arith,
+      head.loop-i.invariant.2,
+      carries-none _ _ _ _ _ _ _ head.loop-i.invariant.3 _ (here at_item) _
+          at-wanted.wanted-now.ensures _ at_item.loop-i-test.true _ at_tried.case2-end.ensures _ at_tried.tried-found.ensures
+          (not-false _ at-if.if-not-next-i.false-raw) c.in_default.is,
+    )
+
+pub overflow_add-next : goal.overflow_add-next
+overflow_add-next c =
+    let at_tried = c.before.before.before.before in
+    let at-if = at_tried.before.before in
+    let at-wanted = at-if.before in
+    let at_item = at-wanted.before in
+    let head = at_item.before.before in
+    let begins =
+    carries-begins _ _ _ _ _ _ _ head.loop-i.invariant.3 _ (here at_item) _
+    at-wanted.wanted-now.ensures _ at_item.loop-i-test.true _ at_tried.case2-end.ensures _ at_tried.tried-found.ensures
+    (not-false _ at-if.if-not-next-i.false-raw) _ c.in-Found.is in
+    omega (arith, begins.2, head.requires)
+
+pub loop-i-preserved : goal.loop-i-preserved
+loop-i-preserved c =
+    let at_tried = c.before.before.before.before in
+    let at-if = at_tried.before.before in
+    let at-wanted = at-if.before in
+    let at_item = at-wanted.before in
+    let head = at_item.before.before in
+    let room : head.loop-i.count < length head.loop-i.rows = omega (arith, head.loop-i.invariant, at_item.loop-i-test.true, head.requires) in (
+      omega arith,
+      omega (arith, head.loop-i.invariant),
+      simp length-set head.loop-i.invariant.2,
+      rw (one_more head.loop-i.rows head.loop-i.count _ room)
+          (carries-some _ _ _ _ _ _ _ head.loop-i.invariant.3 _ (here at_item) _
+          at-wanted.wanted-now.ensures _ at_item.loop-i-test.true _ at_tried.case2-end.ensures _ at_tried.tried-found.ensures
+          (not-false _ at-if.if-not-next-i.false-raw) _ c.in-Found.is),
+    )
+
+pub returns : goal.returns
+returns c =
+    let head = c.before in
+    record {
+      few = omega (arith, head.loop-i.invariant, head.requires);
+      are = carries-all _ _ _ _ _ _ _ head.loop-i.invariant.3 (items-over _ _ _ _ _ c.loop-i-test.false);
+    }

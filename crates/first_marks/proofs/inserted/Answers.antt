@@ -1,0 +1,37 @@
+-- `first_marks::inserted` meets its contract. The invariant: the mark that is held belongs among the rows that are left. Assumes nothing.
+use Prim.Native.Nat.{◌-◌}
+use native.Mathlib.Omega.{arith}
+use mathlib.Core.Path.{refl}
+use lib.ListN.{take}
+use Rattle.rules.specs.FirstMarks.{insert_first}
+use Rattle.first_marks.proofs.Insertion.{Inserting, inserting-last, inserting-kept, inserting-later, inserting-here}
+use borrow.Author.Rules.{rules}
+use Rattle.first_marks.proofs.inserted.Goals as goal
+
+pub loop-k-init : goal.loop-k-init
+loop-k-init c = record { long = omega arith; within = omega arith; left = refl; rises = c.requires.1 }
+
+pub returns-then-held-row : goal.returns-then-held-row
+returns-then-held-row c =
+    let in-loop = c.before.before.before.before in
+    let head = in-loop.before in
+    (omega arith, inserting-kept _ head.loop-k.k _ _ _ head.requires.0 head.loop-k.invariant in-loop.loop-k-test.true c.if-held-row.true)
+
+pub loop-k-preserved-then-row-held : goal.loop-k-preserved-then-row-held
+loop-k-preserved-then-row-held c =
+    let in-loop = c.before.before.before.before.before.before.before in
+    let head = in-loop.before in
+    inserting-later _ head.loop-k.k _ _ _ head.requires.0 head.loop-k.invariant in-loop.loop-k-test.true c.if-row-held.true
+
+pub loop-k-preserved : goal.loop-k-preserved
+loop-k-preserved c =
+    let at1 = c.before.before.before in
+    let in-loop = at1.before.before.before.before in
+    let head = in-loop.before in
+    inserting-here _ head.loop-k.k _ _ _ head.requires.0 head.loop-k.invariant in-loop.loop-k-test.true
+    (omega (arith, at1.if-held-row.false, c.if-row-held.false))
+
+pub returns : goal.returns
+returns c =
+    let head = c.before in
+    (omega arith, inserting-last _ head.loop-k.k _ _ _ head.requires.0 head.loop-k.invariant c.loop-k-test.false)

@@ -1,0 +1,59 @@
+-- `kept::same_zones` meets its contract. The invariant: what is left of the two lists has the whole lists' answer. Assumes nothing.
+use Prim.Native.Nat.{◌≤◌, ◌<◌, ◌-◌}
+use native.Mathlib.Omega.{arith}
+use mathlib.Core.Path.{◌≡◌, refl, sym, ◌∙◌}
+use lib.ListN.{length, take, drop}
+use borrow.Author.Rules.{rules}
+use borrow.Author.Tests.{not-true, not-false}
+use Rattle.rules.specs.Refusals.{same_zones}
+use Rattle.kept.proofs.Same.{priced-at, other-count, same_here, same-later, same_end}
+use Rattle.kept.proofs.same_zones.Goals as goal
+
+left_long : (c : goal.Start) → c.args.n ≤ length c.args.a
+left_long c = omega arith
+
+right_long : (c : goal.Start) → c.args.m ≤ length c.args.b
+right_long c = omega arith
+
+inside : (c : goal.In-loop-i) → c.loop-i.i < c.args.n
+inside c = omega (arith, c.loop-i-test.true)
+
+below : (c : goal.In-loop-i) → c.loop-i.i < c.args.m
+below c = omega (arith, inside c, c.if-n-m.false)
+
+pub returns-then-n-m : goal.returns-then-n-m
+returns-then-n-m c = other-count _ _ _ _ (left_long c.before) (right_long c.before) (λ e. absurd (omega (arith, e, c.if-n-m.true)))
+
+pub loop-i-init : goal.loop-i-init
+loop-i-init c = (omega arith, refl)
+
+pub same_zone-requires : goal.same_zone-requires
+same_zone-requires c =
+    let in-loop = c.before.before in
+    let start = in-loop.before.before.before in
+    priced-at _ in-loop.loop-i.i _ _ start.requires.2 (below in-loop) (right_long start)
+
+pub returns-then-not-same_zone : goal.returns-then-not-same_zone
+returns-then-not-same_zone c =
+    let in-loop = c.before.before.before.before in
+    let head = in-loop.before in
+    let start = head.before.before in
+    let other = sym c.same_zone.ensures ∙ not-true _ c.if-not-same_zone.true-raw in
+    sym (same_here _ _ _ _ (left_long start) (right_long start) head.loop-i.i _ (inside in-loop) (below in-loop) other) ∙ head.loop-i.invariant.1
+
+pub loop-i-preserved : goal.loop-i-preserved
+loop-i-preserved c =
+    let in-loop = c.before.before.before.before in
+    let head = in-loop.before in
+    let start = head.before.before in
+    let one = sym c.same_zone.ensures ∙ not-false _ c.if-not-same_zone.false-raw in (
+      omega arith,
+      sym (same-later _ _ _ _ (left_long start) (right_long start) head.loop-i.i _ (inside in-loop) (below in-loop) one) ∙ head.loop-i.invariant.1,
+    )
+
+pub returns : goal.returns
+returns c =
+    let head = c.before in
+    let start = head.before.before in
+    let past : start.args.n ≤ head.loop-i.i = omega (arith, c.loop-i-test.false) in
+    sym (same_end _ _ _ _ (left_long start) (right_long start) head.loop-i.i past (omega (arith, past, head.if-n-m.false))) ∙ head.loop-i.invariant.1

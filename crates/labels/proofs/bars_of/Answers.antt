@@ -1,0 +1,33 @@
+-- `labels::bars_of` meets its contract. The invariant: the columns of the first k bigs' bars. Assumes nothing.
+use mathlib.Core.Path.{◌≡◌, refl}
+use mathlib.Core.List.{map}
+use Prim.Native.Nat.{◌≤◌, ◌-◌}
+use lib.ListN.{length, take}
+use borrow.Author.Rules.{rules}
+use Rattle.rules.specs.Records.{Levels}
+use Rattle.rules.specs.Ranges.{range_of}
+use Rattle.tables.specs.Tables.{Bigs}
+use Rattle.labels.specs.Touching.{BarColumns}
+use Rattle.labels.proofs.Touching.{columns-more, columns-all}
+use Rattle.labels.proofs.bars_of.Goals as goal
+
+pub loop-k-init : goal.loop-k-init
+loop-k-init c = (search rules, refl, refl, λ l t. record { by_start = refl; by_end = refl })
+
+pub loop-k-preserved : goal.loop-k-preserved
+loop-k-preserved c =
+    let read = c.before in
+    let turn = read.before in
+    let head = turn.before in
+    let inv = head.loop-k.invariant in (
+      search rules,
+      search rules,
+      search rules,
+      λ l t. columns-more l _ _ _ t head.loop-k.k head.loop-k.starts head.loop-k.ends (inv.3 l t) _ _ _ turn.loop-k-test.true
+          (search rules) (search rules) read.range_at.ensures c.bar_of_lem.ensures.0 c.bar_of_lem.ensures.1,
+    )
+
+pub returns : goal.returns
+returns c =
+    let head = c.before in
+    let inv = head.loop-k.invariant in record { wide = (inv.1, inv.2); bar_columns = λ l t. columns-all l _ _ _ t head.loop-k.k _ _ (inv.3 l t) c.loop-k-test.false inv.0; }

@@ -1,0 +1,49 @@
+-- `labels::labels_of` meets its contract. The invariant: the rows so far, and the labels of the zones that are left, are the labels of all; and
+-- the next name is at most the number of zones passed. Assumes nothing.
+use mathlib.Core.Path.{◌≡◌, refl}
+use mathlib.Core.List.{List, ◌++◌, map}
+use mathlib.Core.Option.{none}
+use Prim.Native.Nat.{◌≤◌, ◌-◌}
+use native.Mathlib.Omega.{arith}
+use lib.ListN.{length, take, drop}
+use borrow.Author.Rules.{rules}
+use Rattle.chart.specs.declared.Zone.{Zone}
+use Rattle.rules.specs.Records.{Levels}
+use Rattle.rules.specs.Labels.{labels_from}
+use Rattle.tables.specs.Tables.{Bigs, Zoned}
+use Rattle.labels.specs.Bytes.{label_bytes}
+use Rattle.labels.specs.Steps.{named_in, next_name}
+use Rattle.labels.proofs.Touching.{count_touches}
+use Rattle.labels.proofs.Steps.{label_next, labels-step, labels-end}
+use Rattle.labels.proofs.labels_of.Goals as goal
+
+pub loop-k-init : goal.loop-k-init
+loop-k-init c = (search rules, refl, search rules, λ l zs t z. refl)
+
+pub lone-alone-requires : goal.lone-alone-requires
+lone-alone-requires c =
+    let wide = c.bars_of-columns.ensures.wide in
+    (search rules, omega (arith, wide.0), omega (arith, wide.1))
+
+pub loop-k-preserved : goal.loop-k-preserved
+loop-k-preserved c =
+    let labelled = c.before in
+    let counted = labelled.before in
+    let read = counted.before.before.before in
+    let turn = read.before in
+    let head = turn.before in
+    let inv = head.loop-k.invariant in (
+      search rules,
+      search rules,
+      omega (arith, label_next _ _ _ _ labelled.label_of-next.ensures),
+      λ l zs t z. labels-step l zs _ _ _ z head.loop-k.k head.loop-k.last head.loop-k.rows _ (inv.3 l zs t z) _ _ _
+          turn.loop-k-test.true (search rules) read.zone_at-zone.ensures
+          (rw (count_touches l _ l.bigs) at (counted.lone-alone.ensures _ (head.bars_of-columns.ensures.bar_columns l t)))
+          labelled.label_of-next.ensures,
+    )
+
+pub returns : goal.returns
+returns c l zs t z =
+    let head = c.before in
+    let inv = head.loop-k.invariant in
+    labels-end l zs _ _ _ z head.loop-k.k head.loop-k.last head.loop-k.rows _ (inv.3 l zs t z) c.loop-k-test.false inv.0 (search rules)

@@ -1,0 +1,33 @@
+-- `labels::lone` meets its contract. The invariant: the ranges counted, and those of what is left that touch, are all that touch. Assumes nothing.
+use mathlib.Core.Path.{◌≡◌}
+use Prim.Native.Nat.{◌+◌, ◌≤◌, ◌-◌}
+use native.Mathlib.Omega.{arith}
+use lib.ListN.{take, drop}
+use borrow.Author.Rules.{rules}
+use Rattle.labels.specs.Touching.{touching}
+use Rattle.labels.proofs.Touching.{touch-most, touching-next, touching-end, lone_columns}
+use Rattle.labels.proofs.lone.Goals as goal
+
+pub overflow_add-n : goal.overflow_add-n
+overflow_add-n c = omega (arith, touch-most _ _ _ _ _ c.touches-n.ensures)
+
+pub loop-k-preserved : goal.loop-k-preserved
+loop-k-preserved c =
+    let at-loop = c.before.before.before.before in
+    let start = at-loop.before.before.before.before.before in
+    let a = start.args in
+    let i = at-loop.loop-k.invariant in (
+      search rules,
+      omega (arith, touch-most _ _ _ _ _ c.touches-n.ensures),
+      touching-next _ _ a.m at-loop.loop-k.k _ a.starts.now a.ends.now _ start.requires.1 start.requires.2 _
+          (search rules) c.touches-n.ensures i.2,
+    )
+
+pub returns : goal.returns
+returns c ranges columns =
+    let at-loop = c.before in
+    let start = at-loop.before.before.before.before.before in
+    let a = start.args in
+    let n = touching-end _ _ a.m at-loop.loop-k.k at-loop.loop-k.n a.starts.now a.ends.now _ start.requires.1 start.requires.2
+    (search rules) at-loop.loop-k.invariant.2 in
+    lone_columns a.zone a.m at-loop.loop-k.n _ _ ranges columns n

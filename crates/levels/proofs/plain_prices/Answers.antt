@@ -1,0 +1,7 @@
+-- `levels::plain_prices` meets its contract. Assumes nothing.
+use borrow.Author.Rules.{rules}
+use Rattle.levels.proofs.Tests.{plain_prices}
+use Rattle.levels.proofs.plain_prices.Goals as goal
+
+pub returns : goal.returns
+returns c good = plain_prices _ (c.plain_product.ensures good)

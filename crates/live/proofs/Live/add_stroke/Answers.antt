@@ -1,0 +1,47 @@
+-- `live::Live::add_stroke` meets its contract. Assumes nothing.
+use native.Mathlib.Omega.{arith}
+use mathlib.Core.Path.{◌≡◌, sym, ◌∙◌}
+use borrow.Author.Rules.{rules}
+use Rattle.rules.specs.Records.{levels_of}
+use Rattle.rules.specs.Machine.{add_stroke}
+use Rattle.rules.specs.Live.{live_refusal}
+use Rattle.laws.proofs.Arrays.{length_via, Sized, sized_via}
+use Rattle.laws.proofs.Answers.{counted, room}
+use Rattle.laws.proofs.Levels.{stroke}
+use Rattle.live.specs.Did.{data_of}
+use Rattle.live.proofs.Outcomes.{passes, answer-is, did-not, accepts}
+use Rattle.live.proofs.Levelled.{adding-refused, adding-room, adding-does}
+use Rattle.live.proofs.Live.add_stroke.Goals as goal
+
+sized : (c : goal.Start) → Sized c.args.self.chart
+sized c = search (rules, length_via, sized_via)
+
+abbrev start : goal.Joined-number-eq0 → goal.Start
+start c = c.before.before.before
+
+number_is : (c : goal.Joined-number-eq0) → c.if-number-eq0.number ≡ live_refusal (data_of (start c).args.self) (add_stroke (start c).args.s)
+unfolding levels_of
+number_is c =
+    answer-is _ _ _ _ c.first_number-number.ensures
+    (λ w. (w.0.true, λ good. w.2 ∙ w.1.ensures ∙ sym (adding-refused _ (sized (start c)) (counted _ good) stroke _)))
+    (λ w. (w.0.false, w.1)) c.if-number-eq0.branch
+
+zero : (c : goal.Then-number-eq0-2) → live_refusal (data_of (start c.before).args.self) (add_stroke (start c.before).args.s) ≡ 0
+zero c = sym (number_is c.before) ∙ c.if-number-eq0-2.true
+
+pub stroke_refusal-number-requires : goal.stroke_refusal-number-requires
+stroke_refusal-number-requires c = room _ (passes _ _ c.first_number-number.ensures c.if-number-eq0.true)
+
+pub bounds-chart-n : goal.bounds-chart-n
+bounds-chart-n c = adding-room _ (sized (start c.before)) stroke _ (accepts _ _ (zero c))
+
+pub overflow_add-chart : goal.overflow_add-chart
+overflow_add-chart c = omega (arith, adding-room _ (sized (start c.before)) stroke _ (accepts _ _ (zero c)))
+
+pub returns-then-number-eq0-2 : goal.returns-then-number-eq0-2
+returns-then-number-eq0-2 c =
+    let o = c.before in
+    rw o.if-number-eq0-2.true (c.renewed-self.ensures _ (zero o) (adding-does _ (sized (start o.before)) stroke _ (accepts _ _ (zero o))))
+
+pub returns-else-number-eq0-2 : goal.returns-else-number-eq0-2
+returns-else-number-eq0-2 c = did-not _ _ _ (number_is c.before) c.if-number-eq0-2.false

@@ -1,0 +1,45 @@
+-- `live::Live::add_superior` meets its contract. Assumes nothing.
+use native.Mathlib.Omega.{arith}
+use mathlib.Core.Path.{◌≡◌, sym, ◌∙◌}
+use borrow.Author.Rules.{rules}
+use Rattle.rules.specs.Machine.{add_superior}
+use Rattle.rules.specs.Live.{live_refusal}
+use Rattle.laws.proofs.Arrays.{length_via, Sized, sized_via}
+use Rattle.laws.proofs.Answers.{counted}
+use Rattle.laws.proofs.Levels.{above, superior}
+use Rattle.live.specs.Did.{data_of}
+use Rattle.live.proofs.Outcomes.{passes, answer-is, did-not, accepts}
+use Rattle.live.proofs.Levelled.{adding-refused, adding-room, adding-does}
+use Rattle.live.proofs.Live.add_superior.Goals as goal
+
+sized : (c : goal.Start) → Sized c.args.self.chart
+sized c = search (rules, length_via, sized_via)
+
+abbrev start : goal.Joined-number-eq0 → goal.Start
+start c = c.before.before.before
+
+number_is : (c : goal.Joined-number-eq0) → c.if-number-eq0.number ≡ live_refusal (data_of (start c).args.self) (add_superior (start c).args.t)
+number_is c =
+    answer-is _ _ _ _ c.first_number-number.ensures
+    (λ w. (w.0.true, λ good. w.3 ∙ w.2.ensures ∙ sym (adding-refused _ (sized (start c)) (counted _ good) (above superior) _)))
+    (λ w. (w.0.false, w.1)) c.if-number-eq0.branch
+
+zero : (c : goal.Then-number-eq0-2) → live_refusal (data_of (start c.before).args.self) (add_superior (start c.before).args.t) ≡ 0
+zero c = sym (number_is c.before) ∙ c.if-number-eq0-2.true
+
+pub triple_refusal-number-requires : goal.triple_refusal-number-requires
+triple_refusal-number-requires c = (counted _ (passes _ _ c.first_number-number.ensures c.if-number-eq0.true)).superiors
+
+pub bounds-chart-n : goal.bounds-chart-n
+bounds-chart-n c = adding-room _ (sized (start c.before)) (above superior) _ (accepts _ _ (zero c))
+
+pub overflow_add-chart : goal.overflow_add-chart
+overflow_add-chart c = omega (arith, adding-room _ (sized (start c.before)) (above superior) _ (accepts _ _ (zero c)))
+
+pub returns-then-number-eq0-2 : goal.returns-then-number-eq0-2
+returns-then-number-eq0-2 c =
+    let o = c.before in
+    rw o.if-number-eq0-2.true (c.renewed-self.ensures _ (zero o) (adding-does _ (sized (start o.before)) (above superior) _ (accepts _ _ (zero o))))
+
+pub returns-else-number-eq0-2 : goal.returns-else-number-eq0-2
+returns-else-number-eq0-2 c = did-not _ _ _ (number_is c.before) c.if-number-eq0-2.false

@@ -1,0 +1,50 @@
+-- `live::Live::lengthen` meets its contract. Assumes nothing.
+use Prim.Native.Nat.{◌≤◌}
+use native.Mathlib.Omega.{arith}
+use mathlib.Core.Path.{◌≡◌, sym, ◌∙◌}
+use borrow.Author.Rules.{rules}
+use Rattle.rules.specs.Machine.{lengthen}
+use Rattle.rules.specs.Live.{live_refusal}
+use Rattle.laws.proofs.Arrays.{length_via, Sized, sized_via}
+use Rattle.laws.proofs.Answers.{counted}
+use Rattle.live.specs.Did.{data_of}
+use Rattle.live.proofs.Outcomes.{passes, answer-is, did-not, accepts}
+use Rattle.live.proofs.Levelled.{lengthen-refused}
+use Rattle.live.proofs.Ends.{some-superior, lengthen-does}
+use Rattle.live.proofs.Live.lengthen.Goals as goal
+
+sized : (c : goal.Start) → Sized c.args.self.chart
+sized c = search (rules, length_via, sized_via)
+
+abbrev start : goal.Joined-number-eq0 → goal.Start
+start c = c.before.before.before
+
+number_is : (c : goal.Joined-number-eq0) → c.if-number-eq0.number ≡ live_refusal (data_of (start c).args.self) (lengthen (start c).args.last)
+number_is c =
+    answer-is _ _ _ _ c.first_number-number.ensures
+    (λ w. (w.0.true, λ good. w.3 ∙ w.2.ensures ∙ sym (lengthen-refused _ (sized (start c)) (counted _ good) _)))
+    (λ w. (w.0.false, w.1)) c.if-number-eq0.branch
+
+zero : (c : goal.Then-number-eq0-2) → live_refusal (data_of (start c.before).args.self) (lengthen (start c.before).args.last) ≡ 0
+zero c = sym (number_is c.before) ∙ c.if-number-eq0-2.true
+
+there : (c : goal.Then-number-eq0-2) → 1 ≤ (start c.before).args.self.chart.superior_count
+there c = some-superior _ (sized (start c.before)) _ (accepts _ _ (zero c))
+
+pub lengthen_refusal-number-requires : goal.lengthen_refusal-number-requires
+lengthen_refusal-number-requires c =
+    (counted _ (passes _ _ c.first_number-number.ensures c.if-number-eq0.true)).superiors
+
+pub overflow_sub-n : goal.overflow_sub-n
+overflow_sub-n c = there c
+
+pub bounds-chart-n : goal.bounds-chart-n
+bounds-chart-n c = (omega (arith, there c, (counted _ (accepts _ _ (zero c)).good).superiors), tt)
+
+pub returns-then-number-eq0-2 : goal.returns-then-number-eq0-2
+returns-then-number-eq0-2 c =
+    let o = c.before.before in
+    rw o.if-number-eq0-2.true (c.renewed-self.ensures _ (zero o) (lengthen-does _ (sized (start o.before)) _ (accepts _ _ (zero o)) _))
+
+pub returns-else-number-eq0-2 : goal.returns-else-number-eq0-2
+returns-else-number-eq0-2 c = did-not _ _ _ (number_is c.before) c.if-number-eq0-2.false

@@ -1,0 +1,35 @@
+-- `live::Live::withdraw` meets its contract. Assumes nothing.
+use mathlib.Core.Path.{◌≡◌, sym, ◌∙◌}
+use borrow.Author.Rules.{rules}
+use Rattle.rules.specs.Machine.{withdraw, refusal}
+use Rattle.rules.specs.Live.{live_refusal}
+use Rattle.laws.proofs.Answers.{room}
+use Rattle.live.specs.Did.{data_of}
+use Rattle.live.proofs.Outcomes.{passes, answer-is, did-not, accepts}
+use Rattle.live.proofs.Live.withdraw.Goals as goal
+
+abbrev start : goal.Joined-number-eq0 → goal.Start
+start c = c.before.before.before
+
+number_is : (c : goal.Joined-number-eq0) → c.if-number-eq0.number ≡ live_refusal (data_of (start c).args.self) (withdraw (start c).args.level)
+unfolding refusal
+number_is c =
+    answer-is _ _ _ _ c.first_number-number.ensures (λ w. (w.0.true, λ good. w.2 ∙ w.1.ensures)) (λ w. (w.0.false, w.1))
+    c.if-number-eq0.branch
+
+zero : (c : goal.Then-number-eq0-2) → live_refusal (data_of (start c.before).args.self) (withdraw (start c.before).args.level) ≡ 0
+zero c = sym (number_is c.before) ∙ c.if-number-eq0-2.true
+
+pub withdraw_refusal-number-requires : goal.withdraw_refusal-number-requires
+withdraw_refusal-number-requires c = room _ (passes _ _ c.first_number-number.ensures c.if-number-eq0.true)
+
+pub shortened-requires : goal.shortened-requires
+shortened-requires c = accepts _ _ (zero c)
+
+pub returns-then-number-eq0-2 : goal.returns-then-number-eq0-2
+returns-then-number-eq0-2 c =
+    let o = c.before.before in
+    rw o.if-number-eq0-2.true (c.renewed-self.ensures _ (zero o) c.shortened.ensures)
+
+pub returns-else-number-eq0-2 : goal.returns-else-number-eq0-2
+returns-else-number-eq0-2 c = did-not _ _ _ (number_is c.before) c.if-number-eq0-2.false

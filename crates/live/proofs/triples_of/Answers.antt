@@ -1,0 +1,28 @@
+-- `live::triples_of` meets its contract. The invariant: the records of the first i classes. Assumes nothing.
+use Prim.Native.Nat.{◌≤◌, ◌-◌}
+use mathlib.Core.Path.{◌≡◌, refl}
+use mathlib.Core.List.{map}
+use lib.ListN.{length, take}
+use borrow.Author.Rules.{rules}
+use Rattle.rules.specs.Machine.{as_triple}
+use Rattle.live.proofs.Derives.{one_class_more}
+use Rattle.live.proofs.triples_of.Goals as goal
+
+pub loop-i-init : goal.loop-i-init
+loop-i-init c = (search rules, refl, refl)
+
+pub loop-i-preserved : goal.loop-i-preserved
+loop-i-preserved c =
+    let at-loop = c.before.before.before in
+    let start = at-loop.before in (
+      search rules,
+      search rules,
+      one_class_more at-loop.loop-i.i at-loop.loop-i.triples start.args.classes _ _ (search rules) (search rules) c.triple_of.ensures
+          at-loop.loop-i.invariant.2,
+    )
+
+pub returns : goal.returns
+returns c =
+    let at-loop = c.before in
+    let same : at-loop.args.n ≡ at-loop.loop-i.i = search rules in
+    rw same at-loop.loop-i.invariant.2

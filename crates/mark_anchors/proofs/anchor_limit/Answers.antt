@@ -1,0 +1,33 @@
+-- `mark_anchors::anchor_limit` meets its contract. The invariant: the first superior of the other direction is the first of those from place j
+-- on. Assumes nothing.
+use Prim.Native.Nat.{◌-◌, ◌≤◌}
+use mathlib.Core.Path.{◌≡◌, refl}
+use lib.ListN.{drop}
+use borrow.Author.Rules.{rules}
+use Rattle.rules.specs.Lists.{find}
+use Rattle.rules.specs.Records.{Levels}
+use Rattle.tables.specs.Tables.{Sups}
+use Rattle.mark_anchors.proofs.Stops.{other, other_none, other-here, other-later}
+use Rattle.mark_anchors.proofs.anchor_limit.Goals as goal
+
+pub loop-j-init : goal.loop-j-init
+loop-j-init c = (c.requires.0, λ l t. refl)
+
+pub returns-then-not-is_way : goal.returns-then-not-is_way
+returns-then-not-is_way c =
+    let test = c.before.before in
+    let turn = test.before.before.before in
+    let head = turn.before in
+    λ l b t. other-here l _ _ t _ head.loop-j.j (head.loop-j.invariant.1 l t) turn.loop-j-test.true _ test.is_way.ensures test.if-not-is_way.true-raw
+    _ (c.limit_at.ensures l b)
+
+pub loop-j-preserved : goal.loop-j-preserved
+loop-j-preserved c =
+    let turn = c.before.before.before in
+    let inv = turn.loop-j.invariant in
+    (inv.0, λ l t. other-later l _ _ t _ turn.loop-j.j (inv.1 l t) turn.loop-j-test.true _ c.is_way.ensures c.if-not-is_way.false-raw)
+
+pub returns : goal.returns
+returns c =
+    let head = c.before in
+    λ l b t. other_none l _ _ t _ head.loop-j.j (head.loop-j.invariant.1 l t) c.loop-j-test.false

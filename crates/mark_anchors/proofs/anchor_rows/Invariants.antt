@@ -1,0 +1,12 @@
+use Prim.Native.Nat.{◌-◌}
+use native.Mathlib.Omega.{arith}
+use borrow.Author.Rules.{rules}
+use Rattle.mark_anchors.proofs.Rows.{AnchorsSoFar, anchors-first, anchors-all, anchors-nowhere, anchors-at}
+use Rattle.mark_anchors.proofs.anchor_rows.Given as goal
+
+abbrev pub invariant-loop-i : goal.invariant-loop-i
+invariant-loop-i l =
+    AnchorsSoFar l.bars l.prices (record { l.highs = l.highs; l.lows = l.lows }) l.side l.limit l.n l.initial.keys l.initial.orders l.anchors l.cs l.found l.keys l.orders l.count l.i
+
+abbrev pub decreases-loop-i : goal.decreases-loop-i
+decreases-loop-i l = l.found - l.i

@@ -1,0 +1,42 @@
+-- `mark_rows::number_bar` meets its contract. Assumes nothing.
+use Prim.Native.Nat.{◌≤◌}
+use native.Mathlib.Omega.{arith}
+use lib.ListN.{length}
+use borrow.Author.Rules.{rules}
+use Rattle.mark_rows.proofs.Numbers.{bar-first, bar-zero, bar-before, bar-next}
+use Rattle.mark_rows.proofs.number_bar.Goals as goal
+
+long : (c : goal.Start) → c.args.zeros ≤ length c.args.keys.now
+long c = omega arith
+
+pub returns-then-next-eq0 : goal.returns-then-next-eq0
+returns-then-next-eq0 c =
+    let found = c.before.before in
+    let at_key = found.before.before in
+    bar-first _ _ _ _ _ _ _ _ _ (long at_key.before.before.before) at_key.key_of-key.ensures found.place_of.ensures.value c.if-place_of-zeros.true
+    c.if-next-eq0.true
+
+pub returns-then-place_of-zeros : goal.returns-then-place_of-zeros
+returns-then-place_of-zeros c =
+    let found = c.before.before in
+    let at_key = found.before.before in
+    bar-zero _ _ _ _ _ _ _ _ _ (long at_key.before.before.before) at_key.key_of-key.ensures found.place_of.ensures.value c.if-place_of-zeros.true
+    c.if-next-eq0.false
+
+pub returns-then-next-eq0-2 : goal.returns-then-next-eq0-2
+returns-then-next-eq0-2 c =
+    let found = c.before.before in
+    let at_key = found.before.before in
+    bar-before _ _ _ _ _ _ _ _ _ (long at_key.before.before.before) at_key.key_of-key.ensures found.place_of.ensures.value c.if-place_of-zeros.false
+    c.if-next-eq0-2.true
+
+pub returns : goal.returns
+returns c =
+    let pushed = c.before.before.before.before in
+    let more = pushed.before.before.before in
+    let found = more.before.before in
+    let at_key = found.before.before in
+    let push = pushed.push_3n-count.ensures in
+    bar-next _ _ _ _ _ _ _ _ _ (long at_key.before.before.before) at_key.key_of-key.ensures found.place_of.ensures.value more.if-place_of-zeros.false
+    more.if-next-eq0-2.false
+    _ _ _ push.0 push.1.0 push.1.1

@@ -1,0 +1,35 @@
+-- `mark_scan::reversal` meets its contract. The invariant: the superiors from place i on are left to look at. Assumes nothing.
+use Prim.Native.Nat.{◌-◌}
+use native.Mathlib.Omega.{arith}
+use mathlib.Core.Path.{◌≡◌, refl}
+use lib.ListN.{drop}
+use Rattle.rules.specs.Records.{Levels}
+use Rattle.tables.specs.Tables.{Sups}
+use Rattle.mark_scan.specs.Scan.{reversal_in, limit_of}
+use Rattle.mark_scan.proofs.Stops.{reversal-none, reversal-here, reversal-pass}
+use borrow.Author.Rules.{rules}
+use Rattle.mark_scan.proofs.reversal.Goals as goal
+
+pub loop-i-init : goal.loop-i-init
+loop-i-init c = λ l t. refl
+
+pub overflow_cast-result : goal.overflow_cast-result
+overflow_cast-result c = record { fits = omega (arith, c.turns.ensures.1) }
+
+pub returns-then-turns : goal.returns-then-turns
+returns-then-turns c =
+    let test = c.before in
+    let at_call = test.before in
+    let in-loop = at_call.before.before.before.before in
+    let head = in-loop.before in
+    λ l t. reversal-here _ _ _ _ head.loop-i.i _ l t (head.loop-i.invariant l t) in-loop.loop-i-test.true _ at_call.turns.ensures.0 test.if-turns.true
+
+pub loop-i-preserved : goal.loop-i-preserved
+loop-i-preserved c =
+    let at_call = c.before in
+    let in-loop = at_call.before.before.before.before in
+    let head = in-loop.before in
+    λ l t. reversal-pass _ _ _ _ head.loop-i.i _ l t (head.loop-i.invariant l t) in-loop.loop-i-test.true _ at_call.turns.ensures.0 c.if-turns.false
+
+pub returns : goal.returns
+returns c = λ l t. reversal-none _ _ _ _ c.loop-i.i _ l t (c.loop-i.invariant l t) c.loop-i-test.false

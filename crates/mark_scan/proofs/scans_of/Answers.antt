@@ -1,0 +1,28 @@
+-- `mark_scan::scans_of` meets its contract. The invariant: the scans of the first i zones. Assumes nothing.
+use Prim.Native.Nat.{◌-◌, ◌≤◌}
+use native.Mathlib.Omega.{arith}
+use mathlib.Core.Path.{◌≡◌}
+use lib.ListN.{length, length-set}
+use Rattle.mark_scan.specs.Scan.{ScannedTo}
+use Rattle.mark_scan.proofs.Scans.{scans-next, scans-all}
+use borrow.Author.Rules.{rules}
+use Rattle.mark_scan.proofs.scans_of.Goals as goal
+
+pub loop-i-init : goal.loop-i-init
+loop-i-init c = (omega arith, c.requires.2, λ j h. absurd (omega arith))
+
+pub loop-i-preserved : goal.loop-i-preserved
+loop-i-preserved c =
+    let test = c.before.before in
+    let head = test.before.before in
+    let start = head.before.before in
+    let inv = head.loop-i.invariant in (
+      omega (arith, test.loop-i-test.true),
+      simp length-set inv.1,
+      scans-next _ _ _ _ _ head.loop-i.scans head.loop-i.i inv.2 _ (omega (arith, inv.1, test.loop-i-test.true, start.requires.0.zones)) c.scan_of.ensures,
+    )
+
+pub returns : goal.returns
+returns c =
+    let head = c.before.before in
+    let inv = head.loop-i.invariant in record { scans_len = inv.1; scanned = scans-all _ _ _ _ _ head.loop-i.scans head.loop-i.i inv.2 c.loop-i-test.false; }

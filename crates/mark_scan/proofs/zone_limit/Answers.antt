@@ -1,0 +1,20 @@
+-- `mark_scan::zone_limit` meets its contract. Assumes nothing.
+use Rattle.mark_scan.specs.Scan.{StartsRise}
+use Rattle.mark_scan.proofs.Stops.{behind-all}
+use borrow.Author.Rules.{rules}
+use Rattle.mark_scan.proofs.zone_limit.Goals as goal
+
+-- the start of the way through both tests
+abbrev start : goal.Then-zb-at → goal.Start
+start c = c.before.before.before.before.before
+
+rises : (c : goal.Then-zb-at) → StartsRise (start c).args.n (start c).args.zb.now
+rises c = (start c).requires.2 c.if-rise.true
+
+pub zone_behind-requires : goal.zone_behind-requires
+zone_behind-requires c = ((start c).requires.1, rises c)
+
+pub returns-then-zb-at : goal.returns-then-zb-at
+returns-then-zb-at c =
+    let then = c.before in
+    behind-all _ _ _ _ (start then).args.at _ (rises then) (start then).requires.0 then.if-zb-at.true c.zone_behind.ensures

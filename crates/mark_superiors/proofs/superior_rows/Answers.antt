@@ -1,0 +1,71 @@
+-- `mark_superiors::superior_rows` meets its contract. The invariant: the rows so far, with the marks of the superiors that are left pushed,
+-- come to all; and the zones of those superiors are the ones from place `at` on. Assumes nothing.
+use Prim.Native.Nat.{ℕ, ◌-◌}
+use native.Mathlib.Omega.{arith}
+use mathlib.Core.Path.{refl}
+use mathlib.Core.List.{List}
+use borrow.Author.Rules.{rules}
+use Rattle.mark_superiors.proofs.ZoneBars.{room_among}
+use Rattle.mark_superiors.proofs.SuperiorRows.{RowsSoFar, numbered-first, numbered-all, numbered_next, bars-there}
+use Rattle.mark_superiors.proofs.superior_rows.Goals as goal
+
+-- the places of the code that the proof goes back to
+abbrev begun : goal.At-loop-i → goal.Start
+begun c = c.before.before.before
+
+abbrev turn : goal.After-superior_bars-taken → goal.In-loop-i
+turn c = c.before.before
+
+abbrev head : goal.In-loop-i → goal.At-loop-i
+head c = c.before.before
+
+-- the bars of a superior as they are then
+abbrev bars-of : goal.After-superior_bars-taken → List ℕ
+bars-of c = c.superior_bars-taken.new.1.1.1.1.1.1.0
+
+pub loop-i-init : goal.loop-i-init
+loop-i-init c = numbered-first _ _ _ _ _ _ _ _ _ refl
+
+-- CONVERT lost goal overflow-cast-superior-bars
+-- cast-superior-bars : tie.Need-overflow-cast-superior-bars invariant-loop decreases-loop
+-- cast-superior-bars c =
+--     let few = (begun (head c)).pre.0.0.superiors in
+--     search rules
+
+pub superior_bars-taken-requires : goal.superior_bars-taken-requires
+superior_bars-taken-requires c =
+    let here = head c.before in
+    let pre = (begun here).requires in
+    let chart = pre.1 in record { fits = (pre.0.0, here.loop-i.invariant.wide); by_index = (chart.0, _, chart.1, room_among _ _ _ chart.2); }
+
+pub number_bars-count-requires : goal.number_bars-count-requires
+number_bars-count-requires c =
+    let met = c.before.before.before.before.before in
+    let here = head (turn met) in
+    let pre = (begun here).requires in
+    let inv = here.loop-i.invariant in
+    let block = met.superior_bars-taken.result in
+    let got = met.superior_bars-taken.ensures in record { k_in_bounds = (
+        omega (arith, got.0),
+        omega (arith, got.0),
+        omega (arith, inv.grown.more),
+        omega (arith, inv.grown.long, pre.0.1),
+        omega (arith, inv.grown.wide, pre.0.2),
+      ); by_index = (
+        _,
+        inv.room pre.1.0 pre.1.1 pre.1.2,
+        bars-there _ _ _ _ _ _ _ _ _ _ _ _ _ _ inv (turn met).loop-i-test.true block.count block.next (bars-of met) got.1 pre.1.0 pre.1.1,
+      ); }
+
+pub loop-i-preserved : goal.loop-i-preserved
+loop-i-preserved c =
+    let rows = c.number_bars-count.ensures in
+    let met = c.before.before.before.before.before.before.before.before.before.before in
+    let block = met.superior_bars-taken.result in
+    let got = met.superior_bars-taken.ensures in
+    numbered_next _ _ _ _ _ _ _ _ _ _ _ _ _ _ (head (turn met)).loop-i.invariant (turn met).loop-i-test.true block.count block.next (bars-of met)
+    got.1 _ _ _ _ got.0.1 rows.0 rows.1.0 rows.1.1 refl
+
+pub returns : goal.returns
+returns c =
+    let inv = c.loop-i.invariant in record { numbers_superiors = numbered-all _ _ _ _ _ _ _ _ _ _ _ _ _ _ inv c.loop-i-test.false; keeps_ends = inv.room; grown = inv.grown; }

@@ -1,0 +1,65 @@
+-- `mark_thirds::anchor_hit` meets its contract. The invariant: the first hit is that of the bigs that are left. Assumes nothing.
+use Prim.Native.Nat.{ℕ, ◌-◌}
+use native.Mathlib.Omega.{arith}
+use mathlib.Core.Path.{◌≡◌, refl}
+use mathlib.Core.Bool.{Bool}
+use lib.ListN.{drop}
+use borrow.Author.Rules.{rules}
+use Rattle.rules.specs.Lists.{find}
+use Rattle.rules.specs.Records.{Levels}
+use Rattle.rules.specs.Marks.{beats}
+use Rattle.tables.specs.Tables.{Bigs}
+use Rattle.mark_hits.specs.Anchors.{end_bars_in}
+use Rattle.mark_hits.proofs.Ends.{end_later}
+use Rattle.mark_hits.proofs.Anchors.{bars-none, bars-over, bars-next}
+use Rattle.mark_hits.proofs.Hits.{hits-over, hit-first, hit_later}
+use Rattle.mark_thirds.proofs.anchor_hit.Goals as goal
+
+abbrev start : goal.At-loop-k → goal.Start
+start head = head.before.before.before
+
+-- the test of a hit
+abbrev beat : goal.At-loop-k → ℕ → Bool
+beat head =
+    let args = (start head).args in
+    beats (record { highs = args.highs.now; lows = args.lows.now }) args.side.buy args.p
+
+pub loop-k-init : goal.loop-k-init
+loop-k-init c = λ l t. refl
+
+pub returns-in_default : goal.returns-in_default
+returns-in_default c =
+    let found = c.before.before in
+    let head = found.before.before.before.before in record { lent_price = tt; anchor_hit = λ l t. hits-over (beat head) _ _ (head.loop-k.invariant l t)
+          (bars-over l (start head).args.side.buy _ head.loop-k.k found.next_end-end.result (found.next_end-end.ensures.next_end l t) c.in_default.is); }
+
+pub returns-then-is_hit : goal.returns-then-is_hit
+returns-then-is_hit c =
+    let tried = c.before.before in
+    let told = tried.before.before in
+    let found = told.before.before in
+    let head = found.before.before.before.before in record { lent_price = tried.hit_at-hit.ensures.lent_price; anchor_hit = λ l t. hit-first (beat head) _ _ (head.loop-k.invariant l t) _ _
+          (bars-next l (start head).args.side.buy _ head.loop-k.k found.next_end-end.result (found.next_end-end.ensures.next_end l t) _ _ _ told.in-At.is)
+          tried.hit_at-hit.result tried.hit_at-hit.ensures.bar_value _ c.is_hit.ensures c.if-is_hit.true; }
+
+pub loop-k-smaller : goal.loop-k-smaller
+loop-k-smaller c =
+    let told = c.before.before.before.before in
+    let found = told.before.before in
+    let head = found.before.before.before.before in
+    let later = end_later head.loop-k.k _ found.next_end-end.result _ _ _ found.next_end-end.ensures.later_end told.in-At.is in
+    omega (arith, later.0, later.1)
+
+pub loop-k-preserved : goal.loop-k-preserved
+loop-k-preserved c =
+    let tried = c.before.before in
+    let told = tried.before.before in
+    let found = told.before.before in
+    let head = found.before.before.before.before in
+    λ l t. hit_later (beat head) _ _ (head.loop-k.invariant l t) _ _
+    (bars-next l (start head).args.side.buy _ head.loop-k.k found.next_end-end.result (found.next_end-end.ensures.next_end l t) _ _ _ told.in-At.is)
+    tried.hit_at-hit.result tried.hit_at-hit.ensures.bar_value _ c.is_hit.ensures c.if-is_hit.false
+
+pub returns : goal.returns
+returns c =
+    let head = c.before.before in record { lent_price = tt; anchor_hit = λ l t. hits-over (beat head) _ _ (head.loop-k.invariant l t) (bars-none l (start head).args.side.buy _ head.loop-k.k _ _ _ t c.loop-k-test.false); }

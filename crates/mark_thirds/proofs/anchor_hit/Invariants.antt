@@ -1,0 +1,24 @@
+use Prim.Native.Nat.{ℕ, ◌-◌}
+use native.Mathlib.Omega.{arith}
+use mathlib.Core.Path.{◌≡◌, refl}
+use mathlib.Core.Bool.{Bool}
+use lib.ListN.{drop}
+use borrow.Author.Rules.{rules}
+use Rattle.rules.specs.Lists.{find}
+use Rattle.rules.specs.Records.{Levels}
+use Rattle.rules.specs.Marks.{beats}
+use Rattle.tables.specs.Tables.{Bigs}
+use Rattle.mark_hits.specs.Anchors.{end_bars_in}
+use Rattle.mark_hits.proofs.Ends.{end_later}
+use Rattle.mark_hits.proofs.Anchors.{bars-none, bars-over, bars-next}
+use Rattle.mark_hits.proofs.Hits.{hits-over, hit-first, hit_later}
+use Rattle.mark_thirds.proofs.anchor_hit.Given as goal
+
+abbrev pub invariant-loop-k : goal.invariant-loop-k
+invariant-loop-k l =
+    (c : Levels) → Bigs c l.side.bigs l.bars l.prices
+    → find (beats (record { l.highs = l.highs; l.lows = l.lows }) l.side.buy l.p) (end_bars_in c l.side.buy l.bar (drop l.from c.bigs))
+    ≡ find (beats (record { l.highs = l.highs; l.lows = l.lows }) l.side.buy l.p) (end_bars_in c l.side.buy l.bar (drop l.k c.bigs))
+
+abbrev pub decreases-loop-k : goal.decreases-loop-k
+decreases-loop-k l = l.side.bigs - l.k

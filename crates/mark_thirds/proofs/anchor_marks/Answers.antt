@@ -1,0 +1,104 @@
+-- `mark_thirds::anchor_marks` meets its contract. The invariant: the first rows are the marks found and those of the first i anchors. Assumes nothing.
+use Prim.Native.Nat.{◌+◌, ◌-◌, ◌≤◌}
+use native.Mathlib.Omega.{arith}
+use mathlib.Core.Path.{◌≡◌, refl, ◌∙◌}
+use mathlib.Core.List.{List, [], foldl}
+use lib.ListN.{length, take}
+use borrow.Author.Rules.{rules}
+use borrow.Author.Tests.{le-ltb}
+use Rattle.chart.specs.declared.ThirdMark.{ThirdMark}
+use Rattle.rules.specs.Lists.{each}
+use Rattle.rules.specs.Records.{Levels, Quotes}
+use Rattle.rules.specs.Marks.{add_third, anchor_third}
+use Rattle.levels.proofs.Read.{no_stroke}
+use Rattle.tables.specs.Tables.{Bigs}
+use Rattle.mark_hits.specs.declared.Side.{Side}
+use Rattle.mark_hits.specs.Anchors.{anchors_in}
+use Rattle.mark_hits.proofs.Anchors.{anchor_here}
+use Rattle.mark_thirds.specs.Third.{Marked}
+use Rattle.mark_thirds.proofs.Marked.{marked_next, marked_all}
+use Rattle.mark_thirds.proofs.HitMarks.{hit_on_bar, anchor-nowhere, anchor-is}
+use Rattle.mark_thirds.proofs.anchor_marks.Goals as goal
+
+abbrev start : goal.At-loop-i → goal.Start
+start head = head.before.before.before.before.before.before.before
+
+abbrev quotes : goal.At-loop-i → Quotes
+quotes head = record { highs = (start head).args.highs.now; lows = (start head).args.lows.now }
+
+abbrev side : goal.At-loop-i → Side
+side head = (start head).args.side
+
+pub loop-i-init : goal.loop-i-init
+loop-i-init c =
+    let begun = c.before.before.before.before.before.before in
+    (omega arith, omega arith, omega arith, refl, begun.requires.highs_len_bound.2.1, λ l f t w. w)
+
+pub loop-i-preserved-in_default : goal.loop-i-preserved-in_default
+loop-i-preserved-in_default c =
+    let at = c.before.before in
+    let turn = at.before.before.before in
+    let head = turn.before in
+    let i = head.loop-i.i in
+    let inv = head.loop-i.invariant in
+    let more = turn.loop-i-test.true in (
+      omega (arith, more),
+      inv.1,
+      omega (arith, inv.2),
+      inv.3,
+      inv.4,
+      λ l f t w.
+          let table = head.anchors_of-n.ensures.anchors_of l t in
+          let here = anchor_here l (side head).buy _ _ _ _ table i more _ at.anchor_at-anchor.ensures in
+          marked_next (anchor_third l (quotes head) (side head).buy) _ _ _ _ f (anchors_in l (side head)) i no_stroke [] (omega (arith, more, table.count))
+          (anchor-nowhere l (quotes head) (side head).buy _ at.anchor_at-anchor.result here c.in_default.is)
+          (inv.5 l f t w),
+    )
+
+pub put_hit-count-requires : goal.put_hit-count-requires
+put_hit-count-requires c =
+    let at-hit = c.before.before in
+    let turn = at-hit.before.before.before.before.before.before.before in
+    let head = turn.before in
+    let pre = (start head).requires in
+    let inv = head.loop-i.invariant in (
+      omega (arith, inv.2, turn.loop-i-test.true, head.anchors_of-n.ensures.upper_bound, pre.0),
+      (omega (arith, inv.3, pre.1.2.0), inv.4),
+      hit_on_bar (quotes head) (side head).buy at-hit.anchor_hit-hit.result at-hit.anchor_hit-hit.ensures.lent_price pre.1.0 pre.1.1,
+    )
+
+pub loop-i-preserved : goal.loop-i-preserved
+loop-i-preserved c =
+    let at-put = c.before.before in
+    let at-hit = at-put.before.before.before in
+    let told = at-hit.before.before in
+    let at = told.before.before in
+    let turn = at.before.before.before in
+    let head = turn.before in
+    let i = head.loop-i.i in
+    let inv = head.loop-i.invariant in
+    let more = turn.loop-i-test.true in
+    let kept = at-put.put_hit-count.ensures.one_more in (
+      omega (arith, more),
+      omega (arith, inv.1, kept.0.0),
+      omega (arith, inv.2, kept.0.1),
+      kept.1.0 ∙ inv.3,
+      kept.1.1,
+      λ l f t w.
+          let table = head.anchors_of-n.ensures.anchors_of l t in
+          let here = anchor_here l (side head).buy _ _ _ _ table i more _ at.anchor_at-anchor.ensures in
+          marked_next (anchor_third l (quotes head) (side head).buy) _ _ _ _ f (anchors_in l (side head)) i no_stroke _ (omega (arith, more, table.count))
+          (anchor-is l (quotes head) (side head).buy _ at.anchor_at-anchor.result here _ told.in-At.is _
+          (le-ltb head.loop-i.count (start head).args.found inv.1)
+          at-hit.anchor_hit-hit.result (at-hit.anchor_hit-hit.ensures.anchor_hit l t) at-hit.anchor_hit-hit.ensures.lent_price)
+          (at-put.put_hit-count.ensures.puts_hit (start head).args.found _ (inv.5 l f t w)),
+    )
+
+pub returns : goal.returns
+returns c =
+    let head = c.before in
+    let inv = head.loop-i.invariant in
+    let few = head.anchors_of-n.ensures.upper_bound in record { lower_bound = (inv.1, omega (arith, inv.0, inv.2, few, (start head).requires.found_bound), (inv.3, inv.4)); anchor_marks = λ l f t w.
+          let table = head.anchors_of-n.ensures.anchors_of l t in
+          marked_all (anchor_third l (quotes head) (side head).buy) _ _ _ _ f (anchors_in l (side head)) head.loop-i.i
+          (omega (arith, c.loop-i-test.false, table.count)) (inv.5 l f t w); }

@@ -1,0 +1,31 @@
+-- `mark_thirds::seen` meets its contract. The invariant: whether the key was met or is among those that are left is whether it is among all. Assumes nothing.
+use Prim.Native.Nat.{ℕ, ◌-◌, ◌≤◌}
+use native.Mathlib.Omega.{arith}
+use mathlib.Core.Path.{◌≡◌, refl}
+use mathlib.Core.Bool.{◌||◌}
+use lib.ListN.{take, drop}
+use lib.Dec.{eqb}
+use borrow.Author.Rules.{rules}
+use Rattle.rules.specs.Lists.{any}
+use Rattle.levels.proofs.Tests.{met-more, met-none}
+use Rattle.mark_thirds.proofs.seen.Goals as goal
+
+pub loop-i-init : goal.loop-i-init
+loop-i-init c = (omega arith, refl)
+
+pub loop-i-preserved : goal.loop-i-preserved
+loop-i-preserved c =
+    let in-loop = c.before in
+    let head = in-loop.before in
+    let args = head.args in (
+      omega arith,
+      met-more (λ (k : ℕ). eqb k args.key) _ head.loop-i.i args.keys.now head.loop-i.met _ head.requires
+          head.loop-i.invariant.1 0 in-loop.loop-i-test.true,
+    )
+
+pub returns : goal.returns
+returns c =
+    let head = c.before in
+    let args = head.args in
+    met-none (λ (k : ℕ). eqb k args.key) _ head.loop-i.i args.keys.now head.loop-i.met _ head.requires
+    head.loop-i.invariant.1 c.loop-i-test.false

@@ -1,0 +1,56 @@
+-- `mark_thirds::zone_hit` meets its contract. The invariant: the first hit is that of the bigs that are left. Assumes nothing.
+use Prim.Native.Nat.{ℕ, ◌-◌}
+use native.Mathlib.Omega.{arith}
+use mathlib.Core.Path.{◌≡◌, refl}
+use mathlib.Core.Bool.{Bool}
+use lib.ListN.{drop}
+use Rattle.rules.specs.Lists.{find}
+use Rattle.rules.specs.Records.{is_up, Levels}
+use Rattle.rules.specs.Marks.{beats, pair_ends}
+use Rattle.tables.specs.Tables.{Bigs}
+use Rattle.mark_scan.specs.Scan.{Limits}
+use Rattle.mark_scan.proofs.Pairs.{pairs-none, pair-over, pair-next, pair_later}
+use Rattle.mark_hits.proofs.Hits.{hits-over, hit-first, hit_later}
+use borrow.Author.Rules.{rules}
+use Rattle.mark_thirds.proofs.zone_hit.Goals as goal
+
+pub loop-at-init : goal.loop-at-init
+loop-at-init c = λ l stop t lim. refl
+
+pub returns-in_default : goal.returns-in_default
+returns-in_default c =
+    let found = c.before.before in
+    let head = found.before.before in record { lent_price = tt; zone_hit = λ l stop t lim. hits-over _ _ _ (head.loop-at.invariant l stop t lim)
+          (pair-over _ _ _ _ (found.next_pair-pair.ensures.next_pair l stop t lim) c.in_default.is); }
+
+pub returns-then-is_hit : goal.returns-then-is_hit
+returns-then-is_hit c =
+    let tried = c.before.before in
+    let told = tried.before.before in
+    let found = told.before.before in
+    let head = found.before.before in record { lent_price = tried.hit_at-hit.ensures.lent_price; zone_hit = λ l stop t lim. hit-first _ _ _ (head.loop-at.invariant l stop t lim) _ _
+          (pair-next _ _ _ _ (found.next_pair-pair.ensures.next_pair l stop t lim) _ _ told.in-At.is)
+          tried.hit_at-hit.result tried.hit_at-hit.ensures.bar_value _ c.is_hit.ensures c.if-is_hit.true; }
+
+pub loop-at-smaller : goal.loop-at-smaller
+loop-at-smaller c =
+    let told = c.before.before.before.before in
+    let found = told.before.before in
+    let head = found.before.before in
+    let later = pair_later head.loop-at.at _ found.next_pair-pair.result _ _ found.next_pair-pair.ensures.later told.in-At.is in
+    omega (arith, later.0, later.1)
+
+pub loop-at-preserved : goal.loop-at-preserved
+loop-at-preserved c =
+    let tried = c.before.before in
+    let told = tried.before.before in
+    let found = told.before.before in
+    let head = found.before.before in
+    λ l stop t lim. hit_later _ _ _ (head.loop-at.invariant l stop t lim) _ _
+    (pair-next _ _ _ _ (found.next_pair-pair.ensures.next_pair l stop t lim) _ _ told.in-At.is)
+    tried.hit_at-hit.result tried.hit_at-hit.ensures.bar_value _ c.is_hit.ensures c.if-is_hit.false
+
+pub returns : goal.returns
+returns c =
+    let head = c.before in record { lent_price = tt; zone_hit = λ l stop t lim. hits-over _ _ _ (head.loop-at.invariant l stop t lim)
+          (pairs-none _ _ _ _ _ head.loop-at.at l stop t lim _ refl (omega (arith, c.loop-at-test.false))); }

@@ -1,0 +1,15 @@
+-- `tables::range_at` meets its contract. Assumes nothing.
+use borrow.Author.Rules.{rules}
+use borrow.Author.Tests.{eq-eqb, ne_eqb}
+use Rattle.tables.specs.Tables.{range_in}
+use Rattle.tables.proofs.range_at.Goals as goal
+
+pub returns-then-bars-k-eq0 : goal.returns-then-bars-k-eq0
+unfolding range_in
+returns-then-bars-k-eq0 c = rw (eq-eqb _ 0 c.if-bars-k-eq0.true)
+
+pub returns : goal.returns
+unfolding range_in
+returns c =
+    let low = c.before in
+    rw (ne_eqb _ 0 low.if-bars-k-eq0.false, low.bar_of_lem.ensures, c.bar_of-2.ensures)

@@ -1,0 +1,38 @@
+-- `third::rows_of` meets its contract. The invariant: the first i rows are the first i marks. Assumes nothing.
+use Prim.Native.Nat.{◌-◌, ◌≤◌}
+use native.Mathlib.Omega.{arith}
+use mathlib.Core.Path.{◌≡◌, refl}
+use mathlib.Core.List.{List}
+use lib.ListN.{length, take, length-set}
+use borrow.Author.Rules.{rules}
+use Rattle.chart.specs.declared.ThirdMark.{ThirdMark}
+use Rattle.mark_thirds.specs.Third.{Marked}
+use Rattle.third.proofs.Rows.{given-next, given-all}
+use Rattle.third.proofs.rows_of.Goals as goal
+
+pub loop-i-init : goal.loop-i-init
+loop-i-init c = (omega arith, refl, λ l w. refl)
+
+pub row_of-requires : goal.row_of-requires
+row_of-requires c =
+    let turn = c.before.before.before in
+    let head = turn.before in
+    head.requires.2 head.loop-i.i turn.loop-i-test.true
+
+pub loop-i-preserved : goal.loop-i-preserved
+loop-i-preserved c =
+    let turn = c.before.before.before.before in
+    let head = turn.before in
+    let more = turn.loop-i-test.true in
+    let inv = head.loop-i.invariant in (
+      omega arith,
+      simp length-set inv.1,
+      λ l w. given-next _ _ _ _ l w head.loop-i.i head.loop-i.rows (inv.2 l w) more (omega (arith, inv, more, head.requires))
+          _ c.row_of.ensures,
+    )
+
+pub returns : goal.returns
+returns c =
+    let head = c.before in
+    let inv = head.loop-i.invariant in
+    λ l w. given-all _ _ _ _ l w head.loop-i.i head.loop-i.rows (inv.2 l w) c.loop-i-test.false inv.0 (omega (arith, inv, head.requires))

@@ -1,0 +1,12 @@
+-- `zones::join` meets its contract. Assumes nothing.
+use Rattle.zones.proofs.Laws.{joined}
+use borrow.Author.Rules.{rules}
+use Rattle.zones.proofs.join.Goals as goal
+
+pub returns : goal.returns
+returns c =
+    let gg = c.before.before.before in
+    let zg = gg.before.before in
+    let zd = zg.before.before in
+    joined _ _ _ _ _ _ _ _ _ _ zd.higher.ensures zd.fixed.ensures zg.lower.ensures zg.fixed-2.ensures
+    gg.lower-2.ensures gg.higher-2.ensures c.low_bar.ensures c.low_bar-2.ensures

@@ -1,0 +1,6 @@
+-- `zones::refusal` meets its contract. Assumes nothing.
+use Rattle.laws.proofs.Answers.{refused-rows}
+use Rattle.zones.proofs.refusal.Goals as goal
+
+pub returns : goal.returns
+returns c = refused-rows _ _ c.requires

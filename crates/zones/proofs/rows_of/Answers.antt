@@ -1,0 +1,30 @@
+-- `zones::rows_of` meets its contract. The invariant: the first i rows are the first i zones. Assumes nothing.
+use Prim.Native.Nat.{◌-◌, ◌≤◌}
+use native.Mathlib.Omega.{arith}
+use mathlib.Core.Path.{◌≡◌, refl}
+use lib.ListN.{length, take, length-set}
+use borrow.Author.Rules.{rules}
+use Rattle.tables.specs.Tables.{zones_in}
+use Rattle.zones.proofs.Tables.{row_more, rows_all}
+use Rattle.zones.proofs.rows_of.Goals as goal
+
+pub loop-i-init : goal.loop-i-init
+loop-i-init c = (omega arith, refl, refl)
+
+pub loop-i-preserved : goal.loop-i-preserved
+loop-i-preserved c =
+    let turn = c.before in
+    let head = turn.before in
+    let pre = head.requires in
+    let inv = head.loop-i.invariant in (
+      omega arith,
+      simp length-set inv.1,
+      row_more _ head.loop-i.i _ _ pre.1 pre.0 head.loop-i.rows inv.1 inv.2 _ turn.loop-i-test.true c.zone_at.ensures,
+    )
+
+pub returns : goal.returns
+returns c =
+    let head = c.before in
+    let pre = head.requires in
+    let inv = head.loop-i.invariant in
+    rows_all _ head.loop-i.i _ _ pre.1 pre.0 head.loop-i.rows inv.1 inv.2 c.loop-i-test.false inv.0

@@ -1,0 +1,90 @@
+-- `zones::tables_of` meets its contract. Assumes nothing.
+use native.Mathlib.Omega.{arith}
+use mathlib.Core.Path.{◌≡◌, refl, sym, ◌∙◌}
+use mathlib.Core.Bool.{false}
+use borrow.Author.Rules.{rules}
+use Rattle.rules.specs.Records.{levels_of}
+use Rattle.rules.specs.Refusals.{bad_chart}
+use Rattle.rules.specs.Zones.{overlap_zones}
+use Rattle.laws.proofs.Answers.{counted}
+use Rattle.tables.specs.Tables.{Bigs, Sups}
+use Rattle.tables.proofs.Bigs.{bigs-members}
+use Rattle.tables.proofs.Sups.{sups_owners}
+use Rattle.zones.specs.Filled.{Filled}
+use Rattle.zones.proofs.Call.{number-bad, number-own, number-many, number-few}
+use Rattle.zones.proofs.tables_of.Goals as goal
+
+-- the places of the code that the proof goes back to
+abbrev else1 : goal.Else-own-ne0 → goal.Else-bigs_of
+else1 c = c.before
+
+abbrev else2 : goal.After-superiors_of → goal.Else-own-ne0
+else2 c = c.before.before.before.before.before.before
+
+abbrev listed : goal.After-overlap-count → goal.After-superiors_of
+listed c = c.before.before.before.before.before.before
+
+abbrev start : goal.Else-bigs_of → goal.Start
+start c = c.before.before.before.before
+
+-- the chart is not refused with 21
+good : (c : goal.Else-bigs_of) → bad_chart (start c).args.chart ≡ false
+good c = sym c.bigs_of.ensures.value ∙ c.if-bigs_of.false
+
+-- the tables of its bigs, superiors and zones
+bigs :
+    (c : goal.Else-bigs_of)
+    → Bigs (levels_of (start c).args.chart) (start c).args.chart.big_count c.bigs_of.new.1.0 c.bigs_of.new.1.1.0
+bigs c = c.bigs_of.ensures.bigs c.if-bigs_of.false
+
+superiors :
+    (c : goal.After-superiors_of)
+    → Sups (levels_of (start (else1 (else2 c))).args.chart) (start (else1 (else2 c))).args.chart.superior_count c.superiors_of.new.1.1.1.1.0
+unfolding levels_of
+superiors c = c.superiors_of.ensures _ _ (bigs (else1 (else2 c))) refl
+
+zones :
+    (c : goal.After-overlap-count)
+    → Filled c.overlap-count.result c.overlap-count.new.1.1.1.1.1.0 c.overlap-count.new.1.1.1.1.1.1.0
+    (overlap_zones (levels_of (start (else1 (else2 (listed c)))).args.chart))
+unfolding overlap_zones
+zones c =
+    c.overlap-count.ensures.all_zones _ _ _ (bigs-members _ _ _ _ (bigs (else1 (else2 (listed c))))) (sups_owners _ _ _ (superiors (listed c)))
+
+pub returns-then-bigs_of : goal.returns-then-bigs_of
+returns-then-bigs_of c =
+    let number = c.no_tables.ensures ∙ number-bad _ _ (sym c.bigs_of.ensures.value ∙ c.if-bigs_of.true) in record { number_value = number; tables = λ none. absurd (omega (arith, none, c.no_tables.ensures)); wide = c.requires.1; }
+
+pub returns-then-own-ne0 : goal.returns-then-own-ne0
+returns-then-own-ne0 c =
+    let number = c.no_tables-then-own-ne0.ensures ∙ number-own _ _ (good c.before.before) c.if-own-ne0.true in record { number_value = number; tables = λ none. absurd (c.if-own-ne0.true (sym c.no_tables-then-own-ne0.ensures ∙ none)); wide = (start c.before.before).requires.1; }
+
+pub superiors_of-requires : goal.superiors_of-requires
+superiors_of-requires c =
+    let known = else1 c.before.before.before.before.before in
+    let fits = counted _ (good known) in
+    (fits.superiors-1, fits.bigs, (start known).requires.2)
+
+pub overlap-count-requires : goal.overlap-count-requires
+overlap-count-requires c =
+    let known = else1 (else2 c.before.before.before.before.before) in
+    let fits = counted _ (good known) in
+    (fits.superiors-1, fits.bigs, (start known).requires.1)
+
+pub returns-then-count-gt256 : goal.returns-then-count-gt256
+returns-then-count-gt256 c =
+    let put = c.before.before in
+    let known = else2 (listed put) in
+    let number = c.no_tables-then-count-gt256.ensures ∙ number-many _ _ (good (else1 known)) known.if-own-ne0.false _ _ _ (zones put) c.if-count-gt256.true in record { number_value = number; tables = λ none. absurd (omega (arith, none, c.no_tables-then-count-gt256.ensures)); wide = put.overlap-count.ensures.upper_bound.1; }
+
+pub returns : goal.returns
+returns c =
+    let put = c.before in
+    let known = else1 (else2 (listed put)) in
+    let fits = counted _ (good known) in
+    let own = (zones put).few c.if-count-gt256.false in record { number_value = number-few _ _ (good known) (else2 (listed put)).if-own-ne0.false _ _ _ (zones put) c.if-count-gt256.false; tables = λ _. record {
+          fits = record { bigs = fits.bigs; superiors = fits.superiors-1; zones = c.if-count-gt256.false };
+          bigs = bigs known;
+          superiors = superiors (listed put);
+          zones = own;
+        }; wide = put.overlap-count.ensures.upper_bound.1; }

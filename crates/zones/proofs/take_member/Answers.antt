@@ -1,0 +1,22 @@
+-- `zones::take_member` meets its contract. Assumes nothing.
+use mathlib.Core.Path.{sym, ◌∙◌}
+use borrow.Author.Rules.{rules}
+use borrow.Author.Tests.{not-true, not-false}
+use Rattle.zones.proofs.Tables.{takes-begins, takes-joins, takes-closes}
+use Rattle.zones.proofs.take_member.Goals as goal
+
+-- CONVERT clauses ['members_bound', 'takes']
+pub returns-then-not-begun : goal.returns-then-not-begun
+returns-then-not-begun c = takes-begins _ _ _ _ _ _ (not-true _ c.if-not-begun.true-raw) c.begin.ensures
+
+-- CONVERT clauses ['members_bound', 'takes']
+pub returns-then-joins : goal.returns-then-joins
+returns-then-joins c =
+    let tested = c.before.before in
+    takes-joins _ _ _ _ _ _ (not-false _ tested.if-not-begun.false-raw) (sym tested.joins.ensures ∙ c.if-joins.true) c.join.ensures
+
+-- CONVERT clauses ['members_bound', 'takes']
+pub returns : goal.returns
+returns c =
+    let tested = c.before.before in
+    takes-closes _ _ _ _ _ _ (not-false _ tested.if-not-begun.false-raw) (sym tested.joins.ensures ∙ c.if-joins.false) c.begin-2.ensures
