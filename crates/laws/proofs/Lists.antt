@@ -62,12 +62,12 @@ module _ {A : Type 0} where
   pub all_take : {P : A → Type 0} {xs : List A} (n : ℕ) → All P xs → All P (take n xs)
   all_take zero a = nil
   all_take (suc n) nil = nil
-  all_take (suc n) (cons p a) = cons p (all_take n a)
+  all_take {P = P} (suc n) (cons {x = x} {xs = xs} p a) = cons p (all_take {xs = xs} n a)
 
   pub all_drop : {P : A → Type 0} {xs : List A} (n : ℕ) → All P xs → All P (drop n xs)
   all_drop zero a = a
   all_drop (suc n) nil = nil
-  all_drop (suc n) (cons p a) = all_drop n a
+  all_drop {P = P} (suc n) (cons {x = x} {xs = xs} p a) = all_drop {xs = xs} n a
 
   pub all-find : {P : A → Type 0} {xs : List A} (p : A → Bool) (y : A) → All P xs → find p xs ≡ some y → P y
   all-find p y nil e = absurd (none-some e)
@@ -86,6 +86,7 @@ module _ {A : Type 0} where
       go false q f r = r f
 
   pub all_in : {P : A → Type 0} {xs : List A} {y : A} → All P xs → Memᴰ y xs → P y
+  all_in nil m = elim m [ ]
   all_in {P} (cons p a) (Memᴰ.head e) = subst P (sym e) p
   all_in (cons p a) (Memᴰ.tail m) = all_in a m
 
@@ -172,7 +173,7 @@ module _ {A : Type 0} where
   sorted-at (suc i) (suc j) x y (then a s) h e f = sorted-at i j x y s (omega arith) e f
 
 module _ {A B : Type 0} where
-  pub all-image : {P : B → Type 0} {xs : List A} (f : A → B) → All (λ (x : A). P (f x)) xs → All P (map f xs)
+  pub all-image : {P : B → Type 0} (f : A → B) {xs : List A} → All (λ (x : A). P (f x)) xs → All P (map f xs)
   all-image f nil = nil
   all-image f (cons p a) = cons p (all-image f a)
 
@@ -181,7 +182,7 @@ module _ {A B : Type 0} where
   all-answer none f h = nil
   all-answer (some a) f h = h a refl
 
-  pub all-each : {P : B → Type 0} {xs : List A} (f : A → List B) → All (λ (x : A). All P (f x)) xs → All P (each f xs)
+  pub all-each : {P : B → Type 0} (f : A → List B) {xs : List A} → All (λ (x : A). All P (f x)) xs → All P (each f xs)
   all-each f nil = nil
   all-each f (cons p a) = all_append p (all-each f a)
 
@@ -189,7 +190,7 @@ module _ {A B : Type 0} where
   each_all f [] a = nil
   each_all f (x ∷ xs) a = cons (all_left (f x) (each f xs) a) (each_all f xs (all_right (f x) (each f xs) a))
 
-  pub all-collect : {P : B → Type 0} {xs : List A} (f : A → Option B) → All (λ (x : A). (y : B) → f x ≡ some y → P y) xs → All P (collect f xs)
+  pub all-collect : {P : B → Type 0} (f : A → Option B) {xs : List A} → All (λ (x : A). (y : B) → f x ≡ some y → P y) xs → All P (collect f xs)
   all-collect f nil = nil
   all-collect {P} f (cons {x = x} {xs = xs} p a) = go (f x) refl (all-collect f a)
     where
@@ -295,7 +296,7 @@ module _ {A B : Type 0} where
   in_map f (x ∷ xs) y (Memᴰ.head e) = (x, Memᴰ.head refl, sym e)
   in_map f (x ∷ xs) y (Memᴰ.tail m) = let t = in_map f xs y m in (t.0, Memᴰ.tail t.1, t.2)
 
-  pub map-in : (f : A → B) {xs : List A} {x : A} → Memᴰ x xs → Memᴰ (f x) (map f xs)
+  pub map-in : (f : A → B) {x : A} {xs : List A} → Memᴰ x xs → Memᴰ (f x) (map f xs)
   map-in f (Memᴰ.head e) = Memᴰ.head (ap f e)
   map-in f (Memᴰ.tail m) = Memᴰ.tail (map-in f m)
 

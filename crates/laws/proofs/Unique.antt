@@ -100,6 +100,7 @@ marks_apart c q = record { apart = apart }
 
 put-zero : (ms : List NMark) (m x : NMark) → x.order ≡ 0 → Memᴰ x ms → Memᴰ x (push_3n ms m)
 unfolding push_3n
+put-zero [] m x o h = elim h [ ]
 put-zero (y ∷ ys) m x o (Memᴰ.head e) =
     go (same (mark_key y) (mark_key m)) (ltb m.order y.order)
     (le-ltb m.order y.order (omega (arith, ap (λ (n : NMark). n.order) e)))
@@ -117,7 +118,7 @@ pub puts_zero : (ms l : List NMark) (x : NMark) → x.order ≡ 0 → Memᴰ x m
 puts_zero ms [] x o h = h
 puts_zero ms (m ∷ l) x o h = puts_zero (push_3n ms m) l x o (put-zero ms m x o h)
 
-mem_zero : {l : List ThirdMark} {m : ThirdMark} → Memᴰ m l → Memᴰ (order_zero m) (map order_zero l)
+mem_zero : {m : ThirdMark} {l : List ThirdMark} → Memᴰ m l → Memᴰ (order_zero m) (map order_zero l)
 mem_zero (Memᴰ.head e) = Memᴰ.head (ap order_zero e)
 mem_zero (Memᴰ.tail h) = Memᴰ.tail (mem_zero h)
 

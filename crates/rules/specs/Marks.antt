@@ -107,7 +107,7 @@ scanned c zs z =
 
 -- ---- third marks
 
-unfoldable pub third_at : Quotes → Bool → Ground → ℕ → ThirdMark
+unfoldable pub third_at : Quotes → Bool → (ground : Ground) → ℕ → ThirdMark
 third_at q buy g bar = record { bar_index = bar; price = price_at q buy bar; is_buy = buy; ground = g }
 
 -- An up leave is a buy. The edge that a zone's mark beats: zg (buy), zd (sell)

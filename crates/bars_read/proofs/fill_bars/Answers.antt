@@ -2,9 +2,10 @@
 use Prim.Native.Nat.{◌-◌}
 use borrow.Author.Rules.{rules}
 use Rattle.bars_read.proofs.Fills.{Filling, filling_begins, fills-on, filled}
+use Rattle.bars_read.proofs.fill_bars.Goals.{After-price_at-in-loop-bars, At-loop-bars}
 use Rattle.bars_read.proofs.fill_bars.Goals as goal
 
-abbrev at-loop : goal.After-price_at-in-loop-bars → goal.At-loop-bars
+abbrev at-loop : After-price_at-in-loop-bars → At-loop-bars
 at-loop c = c.before.before.before
 
 pub loop-bars-init : goal.loop-bars-init

@@ -3,14 +3,15 @@ use native.Mathlib.Omega.{arith}
 use borrow.Author.Rules.{rules}
 use borrow.Author.Tests.{not-true, not-false}
 use Rattle.bars_read.proofs.Heads.{head-short, head-unknown, head-cut, head-refused, head-bar}
+use Rattle.bars_read.proofs.head_of.Goals.{After-is_mark, Else-s-lt2, Else-s-lt20}
 use Rattle.bars_read.proofs.head_of.Goals as goal
 
 -- two bytes or more
-abbrev two : goal.After-is_mark → goal.Else-s-lt2
+abbrev two : After-is_mark → Else-s-lt2
 two c = c.before.before.before
 
 -- the mark, and then 20 bytes
-abbrev marked : goal.Else-s-lt20 → goal.After-is_mark
+abbrev marked : Else-s-lt20 → After-is_mark
 marked c = c.before.before
 
 pub returns-then-s-lt2 : goal.returns-then-s-lt2

@@ -7,19 +7,20 @@ use borrow.Author.Rules.{rules}
 use Rattle.rules.specs.Records.{Quotes}
 use Rattle.rules.specs.Refusals.{bad_slices}
 use Rattle.bars_read.proofs.ReadCall.{unequal-bad, slices-by, answer-slices, answer_refused, answer-given}
+use Rattle.bars_read.proofs.read_bars.Goals.{After-scan-r, After-slice_known-2-1, Start}
 use Rattle.bars_read.proofs.read_bars.Goals as goal
 
-abbrev start : goal.After-slice_known-2-1 → goal.Start
+abbrev start : After-slice_known-2-1 → Start
 start c = c.before.before.before
 
-abbrev lent : goal.Start → Quotes
+abbrev lent : Start → Quotes
 lent c = record { highs = c.args.highs.now; lows = c.args.lows.now }
 
-abbrev begun : goal.After-scan-r → goal.Start
+abbrev begun : After-scan-r → Start
 begun c = start c.before.before.before
 
 -- the slices are tested before the scan
-good : (c : goal.After-scan-r) → bad_slices (lent (begun c)) ≡ false
+good : (c : After-scan-r) → bad_slices (lent (begun c)) ≡ false
 good c = slices-by (lent (begun c)) c.if-highs-lows.false false c.if-highs-gt65536.false-raw
 
 -- CONVERT clauses ['bars_value', 'lows_after']

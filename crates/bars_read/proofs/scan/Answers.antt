@@ -4,16 +4,17 @@ use native.Mathlib.Omega.{arith}
 use lib.ListN.{length}
 use borrow.Author.Rules.{rules}
 use Rattle.bars_read.proofs.Scans.{Reached, begins, Turn, stops, has_place, goes_on, ends}
+use Rattle.bars_read.proofs.scan.Goals.{After-head_of-head, At-loop-at, Start}
 use Rattle.bars_read.proofs.scan.Goals as goal
 
-abbrev at-loop : goal.After-head_of-head → goal.At-loop-at
+abbrev at-loop : After-head_of-head → At-loop-at
 at-loop c = c.before.before.before
 
-abbrev start : goal.After-head_of-head → goal.Start
+abbrev start : After-head_of-head → Start
 start c = (at-loop c).before.before
 
 turn :
-    (c : goal.After-head_of-head)
+    (c : After-head_of-head)
     → Turn (start c).args.places (start c).args.bytes.now (at-loop c).loop-at.bars (at-loop c).loop-at.at c.head_of-head.result
 turn c = record { reached = (at-loop c).loop-at.invariant; more = c.loop-at-test.true; called = c.head_of-head.ensures }
 

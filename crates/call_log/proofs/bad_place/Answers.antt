@@ -6,17 +6,18 @@ use mathlib.Core.List.{[], ◌∷◌}
 use lib.ListN.{length}
 use types.Run.{miss}
 use borrow.Author.Rules.{rules}
-use Rattle.log.specs.Log.{Entry, spelled}
-use Rattle.log.specs.Entries.{bad_at, rest_of, EntryAt}
-use Rattle.log.proofs.Steps.{good-entry, bad_here, bad_later, bad_nowhere}
+use Rattle.call_log.specs.Log.{Entry, spelled}
+use Rattle.call_log.specs.Entries.{bad_at, rest_of, EntryAt}
+use Rattle.call_log.proofs.Steps.{good-entry, bad_here, bad_later, bad_nowhere}
+use Rattle.call_log.proofs.bad_place.Goals.{In_default, Start}
 use Rattle.call_log.proofs.bad_place.Goals as goal
 
 -- what is known where the entry is not bad
-abbrev log_of : goal.In_default → goal.Start
+abbrev log_of : In_default → Start
 log_of c = c.before.before.before.before.before
 
 good :
-    (c : goal.In_default)
+    (c : In_default)
     → (e : Entry)
     × EntryAt (log_of c).args.log.now c.loop-at.at c.loop-at.bars e
     c.next_entry-n.result.next

@@ -5,9 +5,9 @@ use mathlib.Core.List.{[], ◌∷◌}
 use lib.ListN.{length}
 use types.Run.{miss}
 use borrow.Author.Rules.{rules}
-use Rattle.log.specs.Log.{Entry, spelled}
-use Rattle.log.specs.Entries.{bad_at, rest_of, EntryAt}
-use Rattle.log.proofs.Steps.{good-entry, bad_here, bad_later, bad_nowhere}
+use Rattle.call_log.specs.Log.{Entry, spelled}
+use Rattle.call_log.specs.Entries.{bad_at, rest_of, EntryAt}
+use Rattle.call_log.proofs.Steps.{good-entry, bad_here, bad_later, bad_nowhere}
 use Rattle.call_log.proofs.bad_place.Given as goal
 
 abbrev pub invariant-loop-at : goal.invariant-loop-at

@@ -2,7 +2,7 @@
 use mathlib.Core.List.{[], ◌∷◌}
 use types.Run.{miss}
 use borrow.Author.Rules.{rules}
-use Rattle.log.proofs.Steps.{with-bar, with_call}
+use Rattle.call_log.proofs.Steps.{with-bar, with_call}
 use Rattle.call_log.proofs.counted.Goals as goal
 
 pub enum_told-1 : goal.enum_told-1

@@ -8,9 +8,9 @@ use Rattle.chart.specs.declared.Triple.{Triple}
 use Rattle.rules.specs.Text.{ascii}
 use Rattle.rules.specs.Machine.{add_stroke, add_segment, add_big, add_superior, lengthen, withdraw, derive_bigs, derive_superiors}
 use Rattle.laws.proofs.FileCode.{one_at}
-use Rattle.log.specs.Log.{call, forms, form_of}
-use Rattle.log.specs.Entries.{width_by, entry_by}
-use Rattle.log.proofs.Forms.{rolled_in, wide-as, entry-as, no_form, no_entry}
+use Rattle.call_log.specs.Log.{call, forms, form_of}
+use Rattle.call_log.specs.Entries.{width_by, entry_by}
+use Rattle.call_log.proofs.Forms.{rolled_in, wide-as, entry-as, no_form, no_entry}
 use Rattle.call_log.proofs.entry_in.Goals as goal
 
 pub bounds-s-21 : goal.bounds-s-21
@@ -62,11 +62,11 @@ unfolding width_by entry_by form_of forms ascii
 returns-in-83 c =
     let e = c.in-83.is in
     let long = wide-as _ 83 e _ c.requires in
-    ap (λ (s : Stroke). some (call (add_stroke s))) (rolled_in _ _ long c.stroke_in_lem.ensures) ∙ entry-as _ 83 e _
+    ap (λ (s : Stroke). some (call (add_stroke s))) (rolled_in _ _ long c.stroke_in.ensures) ∙ entry-as _ 83 e _
 
 pub returns-in-71 : goal.returns-in-71
 unfolding entry_by form_of forms ascii
-returns-in-71 c = ap (λ (t : Triple). some (call (add_segment t))) c.triple_in_lem.ensures ∙ entry-as _ 71 c.in-71.is _
+returns-in-71 c = ap (λ (t : Triple). some (call (add_segment t))) c.triple_in.ensures ∙ entry-as _ 71 c.in-71.is _
 
 pub returns-in-66 : goal.returns-in-66
 unfolding entry_by form_of forms ascii

@@ -1,9 +1,9 @@
 -- `log::width_of` meets its contract. Assumes nothing.
 use mathlib.Core.Logic.{⊎_elim, inl, inr}
 use Rattle.rules.specs.Text.{ascii}
-use Rattle.log.specs.Log.{forms, form_of}
-use Rattle.log.specs.Entries.{width_by}
-use Rattle.log.proofs.Forms.{width-as, no_form}
+use Rattle.call_log.specs.Log.{forms, form_of}
+use Rattle.call_log.specs.Entries.{width_by}
+use Rattle.call_log.proofs.Forms.{width-as, no_form}
 use Rattle.call_log.proofs.width_of.Goals as goal
 
 pub returns-in-83 : goal.returns-in-83

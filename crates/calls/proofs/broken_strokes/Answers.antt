@@ -11,18 +11,19 @@ use Rattle.levels.proofs.Read.{no_stroke}
 use Rattle.calls.proofs.Single.{join_first}
 use Rattle.calls.proofs.Broken.{each-stroke, each_none, each_first, each-second, each-later}
 use borrow.Author.Rules.{rules}
+use Rattle.calls.proofs.broken_strokes.Goals.{At-loop-i, Else-n-eq0, In-loop-i, Start}
 use Rattle.calls.proofs.broken_strokes.Goals as goal
 
-long : (c : goal.Start) → c.args.chart.stroke_count ≤ length c.args.chart.strokes
+long : (c : Start) → c.args.chart.stroke_count ≤ length c.args.chart.strokes
 long c = let size : length c.args.chart.strokes ≡ 512 = search (rules, length_via) in omega (arith, c.requires)
 
-more : (c : goal.Else-n-eq0) → 0 < c.args.chart.stroke_count
+more : (c : Else-n-eq0) → 0 < c.args.chart.stroke_count
 more c = omega (arith, c.if-n-eq0.false)
 
-abbrev start : goal.At-loop-i → goal.Start
+abbrev start : At-loop-i → Start
 start c = c.before.before.before.before.before
 
-inside : (c : goal.In-loop-i) → c.loop-i.i < (start c.before).args.chart.stroke_count
+inside : (c : In-loop-i) → c.loop-i.i < (start c.before).args.chart.stroke_count
 inside c = omega (arith, c.loop-i-test.true)
 
 pub returns-then-n-eq0 : goal.returns-then-n-eq0

@@ -10,18 +10,19 @@ use Rattle.levels.proofs.Read.{no_triple}
 use Rattle.calls.proofs.Single.{triple-first}
 use Rattle.calls.proofs.Broken.{each-triple, each_none, each_first, each-second, each-later}
 use borrow.Author.Rules.{rules}
+use Rattle.calls.proofs.broken_triples.Goals.{At-loop-k, Else-n-eq0, In-loop-k, Start}
 use Rattle.calls.proofs.broken_triples.Goals as goal
 
-long : (c : goal.Start) → c.args.n ≤ length c.args.triples
+long : (c : Start) → c.args.n ≤ length c.args.triples
 long c = omega arith
 
-more : (c : goal.Else-n-eq0) → 0 < c.args.n
+more : (c : Else-n-eq0) → 0 < c.args.n
 more c = omega (arith, c.if-n-eq0.false)
 
-abbrev start : goal.At-loop-k → goal.Start
+abbrev start : At-loop-k → Start
 start c = c.before.before.before.before.before.before.before
 
-inside : (c : goal.In-loop-k) → c.loop-k.k < (start c.before).args.n
+inside : (c : In-loop-k) → c.loop-k.k < (start c.before).args.n
 inside c = omega (arith, c.loop-k-test.true)
 
 pub returns-then-n-eq0 : goal.returns-then-n-eq0

@@ -8,9 +8,10 @@ use Rattle.levels.proofs.Read.{no_triple}
 use Rattle.calls.proofs.Last.{last_none, last_taken}
 use Rattle.calls.proofs.Chain.{refuse_here, refuse-later, lengthen_none, lengthen_some}
 use borrow.Author.Rules.{rules}
+use Rattle.calls.proofs.lengthen_refusal.Goals.{Start}
 use Rattle.calls.proofs.lengthen_refusal.Goals as goal
 
-long : (c : goal.Start) → c.args.n ≤ length c.args.superiors
+long : (c : Start) → c.args.n ≤ length c.args.superiors
 long c = omega arith
 
 pub returns-then-n-eq0 : goal.returns-then-n-eq0

@@ -9,12 +9,13 @@ use Rattle.laws.proofs.Arrays.{length_via}
 use Rattle.laws.proofs.Answers.{counts}
 use Rattle.calls.proofs.Chain.{stroke-number}
 use borrow.Author.Rules.{rules}
+use Rattle.calls.proofs.stroke_refusal.Goals.{Start}
 use Rattle.calls.proofs.stroke_refusal.Goals as goal
 
-fits : (c : goal.Start) → c.args.chart.stroke_count ≤ 512
+fits : (c : Start) → c.args.chart.stroke_count ≤ 512
 fits c = (counts c.args.chart c.requires).strokes
 
-long : (c : goal.Start) → c.args.chart.stroke_count ≤ length c.args.chart.strokes
+long : (c : Start) → c.args.chart.stroke_count ≤ length c.args.chart.strokes
 long c = let size : length c.args.chart.strokes ≡ 512 = search (rules, length_via) in omega (arith, fits c)
 
 pub bounds-chart-k : goal.bounds-chart-k

@@ -5,9 +5,10 @@ use mathlib.Core.Path.{◌∙◌}
 use lib.ListN.{length}
 use Rattle.calls.proofs.Chain.{triple-number}
 use borrow.Author.Rules.{rules}
+use Rattle.calls.proofs.triple_refusal.Goals.{Start}
 use Rattle.calls.proofs.triple_refusal.Goals as goal
 
-long : (c : goal.Start) → c.args.n ≤ length c.args.triples
+long : (c : Start) → c.args.n ≤ length c.args.triples
 long c = omega arith
 
 pub returns : goal.returns

@@ -8,9 +8,10 @@ use Rattle.levels.proofs.Read.{no_triple}
 use Rattle.calls.proofs.Last.{last_none, last_taken}
 use Rattle.calls.proofs.Chain.{refuse_here, refuse-later, held_none, held_by, held-not}
 use borrow.Author.Rules.{rules}
+use Rattle.calls.proofs.under_refusal.Goals.{Start}
 use Rattle.calls.proofs.under_refusal.Goals as goal
 
-long : (c : goal.Start) → c.args.n ≤ length c.args.above
+long : (c : Start) → c.args.n ≤ length c.args.above
 long c = omega arith
 
 pub returns-then-count-eq0 : goal.returns-then-count-eq0

@@ -5,22 +5,23 @@ use borrow.Author.Tests.{lt-ltb, le-ltb}
 use borrow.Author.Rules.{rules}
 use Rattle.chart_read.proofs.RecordKinds.{stroke_direction, stroke-prices, stroke-given}
 use Rattle.rules.specs.Refusals.{bad_prices}
+use Rattle.chart_read.proofs.checked_stroke.Goals.{After-stroke_in-stroke}
 use Rattle.chart_read.proofs.checked_stroke.Goals as goal
 
-abbrev rolled : goal.After-stroke_in-stroke → Bool
+abbrev rolled : After-stroke_in-stroke → Bool
 rolled c = c.args.rolled
 
 pub returns-then-stroke-gt1 : goal.returns-then-stroke-gt1
 returns-then-stroke-gt1 c =
     let read = c.before.before in
-    stroke_direction _ (rolled read) _ read.roll_of.ensures _ read.stroke_in_lem.ensures (lt-ltb _ _ c.if-stroke-gt1.true)
+    stroke_direction _ (rolled read) _ read.roll_of.ensures _ read.stroke_in-stroke.ensures (lt-ltb _ _ c.if-stroke-gt1.true)
 
 pub returns-then-wrong_prices : goal.returns-then-wrong_prices
 unfolding bad_prices
 returns-then-wrong_prices c =
     let test = c.before in
     let read = test.before.before.before in
-    stroke-prices _ (rolled read) _ read.roll_of.ensures _ read.stroke_in_lem.ensures (le-ltb _ _ test.if-stroke-gt1.false)
+    stroke-prices _ (rolled read) _ read.roll_of.ensures _ read.stroke_in-stroke.ensures (le-ltb _ _ test.if-stroke-gt1.false)
     (sym test.wrong_prices.ensures ∙ c.if-wrong_prices.true)
 
 pub returns : goal.returns
@@ -28,5 +29,5 @@ unfolding bad_prices
 returns c =
     let test = c.before in
     let read = test.before.before.before in
-    stroke-given _ (rolled read) _ read.roll_of.ensures _ read.stroke_in_lem.ensures (le-ltb _ _ test.if-stroke-gt1.false)
+    stroke-given _ (rolled read) _ read.roll_of.ensures _ read.stroke_in-stroke.ensures (le-ltb _ _ test.if-stroke-gt1.false)
     (sym test.wrong_prices.ensures ∙ c.if-wrong_prices.false)

@@ -14,7 +14,7 @@ pub returns-in_default : goal.returns-in_default
 returns-in_default c =
     let called = c.before.before in
     let test = called.before.before.before in
-    head-unknown _ _ test.if-s-lt2.false _ called.mark_of_fact.ensures c.in_default.is
+    head-unknown _ _ test.if-s-lt2.false _ called.mark_of.ensures c.in_default.is
 
 pub returns-then-cut : goal.returns-then-cut
 returns-then-cut c =
@@ -22,7 +22,7 @@ returns-then-cut c =
     let mark = wide.before.before in
     let called = mark.before.before in
     let test = called.before.before.before in
-    head-cut _ _ test.if-s-lt2.false _ called.mark_of_fact.ensures _ mark.in-Mark.is _ wide.width_of_lem.ensures c.if-cut.true-raw
+    head-cut _ _ test.if-s-lt2.false _ called.mark_of.ensures _ mark.in-Mark.is _ wide.width_of_lem.ensures c.if-cut.true-raw
 
 pub returns-then-full : goal.returns-then-full
 returns-then-full c =
@@ -31,7 +31,7 @@ returns-then-full c =
     let mark = wide.before.before in
     let called = mark.before.before in
     let test = called.before.before.before in
-    head-full _ _ test.if-s-lt2.false _ called.mark_of_fact.ensures _ mark.in-Mark.is _ wide.width_of_lem.ensures c.if-cut.false-raw
+    head-full _ _ test.if-s-lt2.false _ called.mark_of.ensures _ mark.in-Mark.is _ wide.width_of_lem.ensures c.if-cut.false-raw
     (sym full.is_full-full.ensures ∙ c.if-full.true)
 
 pub checked_record-requires : goal.checked_record-requires
@@ -49,7 +49,7 @@ returns c =
     let mark = wide.before.before in
     let called = mark.before.before in
     let test = called.before.before.before in
-    head-fields _ _ test.if-s-lt2.false _ called.mark_of_fact.ensures _ mark.in-Mark.is _ wide.width_of_lem.ensures c.checked_record.result
+    head-fields _ _ test.if-s-lt2.false _ called.mark_of.ensures _ mark.in-Mark.is _ wide.width_of_lem.ensures c.checked_record.result
     room.if-cut.false-raw
     (sym full.is_full-full.ensures ∙ room.if-full.false)
     c.checked_record.ensures

@@ -10,42 +10,43 @@ use Rattle.rules.specs.File.{kind, width, Record, stroke, segment, big, superior
 use Rattle.laws.proofs.Arrays.{length_via, Sized, sized_via}
 use Rattle.chart_read.specs.declared.Level.TheVariants as level
 use Rattle.chart_read.proofs.Scans.{Reached, begins, answer_at, Turn, stops, stroke-is, triple-is, has_place, goes_on, goes-on-stroke, goes_over, ends}
+use Rattle.chart_read.proofs.read_chart.Goals.{After-head_of-head, After-no_chart-chart, At-loop-at, In-Big, In-Segment, In-Stroke, In-Superior, In-Triple, Start}
 use Rattle.chart_read.proofs.read_chart.Goals as goal
 
-sized : (c : goal.After-no_chart-chart) → Sized c.no_chart-chart.result
+sized : (c : After-no_chart-chart) → Sized c.no_chart-chart.result
 sized c = search (rules, length_via, sized_via)
 
-abbrev at-loop : goal.After-head_of-head → goal.At-loop-at
+abbrev at-loop : After-head_of-head → At-loop-at
 at-loop c = c.before.before.before
 
-abbrev start : goal.After-head_of-head → goal.Start
+abbrev start : After-head_of-head → Start
 start c = (at-loop c).before.before.before
 
 turn :
-    (c : goal.After-head_of-head)
+    (c : After-head_of-head)
     → Turn (start c).args.bytes.now (at-loop c).loop-at.chart (at-loop c).loop-at.passed (at-loop c).loop-at.at c.head_of-head.result
 turn c = record { reached = (at-loop c).loop-at.invariant; more = c.loop-at-test.true; called = c.head_of-head.ensures }
 
 -- the record that is read, in each arm
-abbrev read : goal.After-head_of-head → Answer Record
+abbrev read : After-head_of-head → Answer Record
 read c = answer_at (start c).args.bytes.now (at-loop c).loop-at.at c.head_of-head.result
 
-abbrev arm : goal.In-Triple → goal.After-head_of-head
+abbrev arm : In-Triple → After-head_of-head
 arm c = c.before.before.before
 
-abbrev triple : goal.In-Triple → Triple
+abbrev triple : In-Triple → Triple
 triple c = c.head-in-Triple-1.given.0.1.0
 
-stroke-read : (c : goal.In-Stroke) → read c.before.before.before ≡ given (stroke c.in-Stroke.s)
+stroke-read : (c : In-Stroke) → read c.before.before.before ≡ given (stroke c.in-Stroke.s)
 stroke-read c = stroke-is (turn c.before.before.before) _ c.in-Stroke.is
 
-segment_read : (c : goal.In-Segment) → read (arm c.before.before) ≡ given (segment (triple c.before.before))
+segment_read : (c : In-Segment) → read (arm c.before.before) ≡ given (segment (triple c.before.before))
 segment_read c = triple-is (turn (arm c.before.before)) _ level.Segment _ c.in-Triple.is c.in-Segment.is
 
-big_read : (c : goal.In-Big) → read (arm c.before.before) ≡ given (big (triple c.before.before))
+big_read : (c : In-Big) → read (arm c.before.before) ≡ given (big (triple c.before.before))
 big_read c = triple-is (turn (arm c.before.before)) _ level.Big _ c.in-Triple.is c.in-Big.is
 
-superior_read : (c : goal.In-Superior) → read (arm c.before.before) ≡ given (superior (triple c.before.before))
+superior_read : (c : In-Superior) → read (arm c.before.before) ≡ given (superior (triple c.before.before))
 superior_read c = triple-is (turn (arm c.before.before)) _ level.Superior _ c.in-Triple.is c.in-Superior.is
 
 pub loop-at-init : goal.loop-at-init

@@ -10,17 +10,18 @@ use Rattle.classes.specs.Items.{item_of, items_of}
 use Rattle.classes.proofs.Items.{items-over, item_in}
 use Rattle.classes.proofs.Second.{second_begins, second-over, second-other, second-fails, second-ends, second-next}
 use borrow.Author.Rules.{rules}
+use Rattle.classes.proofs.case2.Goals.{After-item_at-y, At-loop-j}
 use Rattle.classes.proofs.case2.Goals as goal
 
-abbrev items : goal.At-loop-j → List Item
+abbrev items : At-loop-j → List Item
 items c = let a = c.args in items_of a.n a.directions.now a.starts.now a.ends.now
 
 pub loop-j-init : goal.loop-j-init
 loop-j-init c =
-    (omega arith, second_begins _ c.args.i _ (item_in _ _ _ _ _ _ (omega arith) c.item_at_fact.ensures))
+    (omega arith, second_begins _ c.args.i _ (item_in _ _ _ _ _ _ (omega arith) c.item_at-x.ensures))
 
 -- the next item
-next : (c : goal.After-item_at-y) → get_elem? (items c.before.before) c.loop-j.j ≡ some (item_of c.item_at-y.result)
+next : (c : After-item_at-y) → get_elem? (items c.before.before) c.loop-j.j ≡ some (item_of c.item_at-y.result)
 next c = item_in _ _ _ _ _ _ c.loop-j-test.true c.item_at-y.ensures
 
 pub loop-j-preserved-then-y-x : goal.loop-j-preserved-then-y-x

@@ -10,12 +10,13 @@ use Rattle.laws.proofs.Arrays.{length_via}
 use Rattle.classes.specs.Items.{CountsFit}
 use Rattle.classes.proofs.Gather.{Long, level-length}
 use borrow.Author.Rules.{rules}
+use Rattle.classes.proofs.classify_sup_segments.Goals.{Else-bad_chart, Start}
 use Rattle.classes.proofs.classify_sup_segments.Goals as goal
 
-few : (c : goal.Else-bad_chart) → CountsFit c.args.chart
+few : (c : Else-bad_chart) → CountsFit c.args.chart
 few c = let n = counted _ (sym c.bad_chart.ensures ∙ c.if-bad_chart.false) in (n.strokes, n.segments, n.bigs)
 
-long : (c : goal.Start) → Long c.args.chart
+long : (c : Start) → Long c.args.chart
 long c = (search (rules, length_via), search (rules, length_via), search (rules, length_via))
 
 pub returns-then-bad_chart : goal.returns-then-bad_chart

@@ -13,15 +13,16 @@ use Rattle.classes.proofs.Items.{items-length, item_in}
 use Rattle.classes.proofs.Extended.{extend-none, extend-begins, over_none, over-pass, over-moves}
 use borrow.Author.Tests.{not-true, not-false}
 use borrow.Author.Rules.{rules}
+use Rattle.classes.proofs.extend.Goals.{After-item_at-y, At-loop-at}
 use Rattle.classes.proofs.extend.Goals as goal
 
 -- those of the items that the class may reach
-abbrev reach : goal.At-loop-at → List Item
+abbrev reach : At-loop-at → List Item
 reach c =
     let a = c.args in
     take c.at_most-end.result (items_of a.n a.directions.now a.starts.now a.ends.now)
 
-reach-length : (c : goal.At-loop-at) → length (reach c) ≡ c.at_most-end.result
+reach-length : (c : At-loop-at) → length (reach c) ≡ c.at_most-end.result
 reach-length c =
     let a = c.args in
     let all = items-length a.directions.now a.starts.now a.ends.now a.n in
@@ -34,11 +35,11 @@ pub loop-at-init : goal.loop-at-init
 loop-at-init c =
     let at-if = c.before.before in (
       omega (arith, c.at_most-end.ensures),
-      extend-begins _ _ _ _ (items-length _ _ _ _) _ _ (item_in _ _ _ _ _ _ at-if.if-n-last.false c.item_at_fact.ensures) c.at_most-end.ensures,
+      extend-begins _ _ _ _ (items-length _ _ _ _) _ _ (item_in _ _ _ _ _ _ at-if.if-n-last.false c.item_at-x.ensures) c.at_most-end.ensures,
     )
 
 -- the next item
-next : (c : goal.After-item_at-y) → get_elem? (reach c.before.before) c.loop-at.at ≡ some (item_of c.item_at-y.result)
+next : (c : After-item_at-y) → get_elem? (reach c.before.before) c.loop-at.at ≡ some (item_of c.item_at-y.result)
 next c =
     let head = c.before.before in
     at_take _ _ _ c.loop-at-test.true

@@ -8,9 +8,10 @@ use Rattle.classes.specs.Items.{items_of}
 use Rattle.classes.proofs.Items.{items-length}
 use Rattle.classes.proofs.Extended.{Behind, behind-first, behind_more, behind-all}
 use borrow.Author.Rules.{rules}
+use Rattle.classes.proofs.extend_all.Goals.{Start}
 use Rattle.classes.proofs.extend_all.Goals as goal
 
-rows_long : (c : goal.Start) → length c.args.found.rows ≡ 256
+rows_long : (c : Start) → length c.args.found.rows ≡ 256
 rows_long c = search (rules, length_via)
 
 pub loop-c-init : goal.loop-c-init

@@ -13,30 +13,31 @@ use Rattle.classes.specs.Items.{items_of, level_of, row_item, read_of}
 use Rattle.classes.proofs.Items.{item-more}
 use Rattle.classes.proofs.Gather.{Long, Gathering, gathering-first, gathering-all, gathering-missing, gathering-there, level-length, level-at, item-read}
 use borrow.Author.Rules.{rules}
+use Rattle.classes.proofs.items_of.Goals.{After-chosen-t, After-item_from-read, After-over_strokes-u, At-loop-k, Start}
 use Rattle.classes.proofs.items_of.Goals as goal
 
-long : (c : goal.Start) → Long c.args.chart
+long : (c : Start) → Long c.args.chart
 long c = (search (rules, length_via), search (rules, length_via), search (rules, length_via))
 
 -- ---- places of the code
 
-abbrev start : goal.At-loop-k → goal.Start
+abbrev start : At-loop-k → Start
 start c = c.before.before.before
 
-abbrev head : goal.After-chosen-t → goal.At-loop-k
+abbrev head : After-chosen-t → At-loop-k
 head c = c.before.before.before.before
 
 -- where t was chosen, before it was taken over strokes
-abbrev at_t : goal.After-over_strokes-u → goal.After-chosen-t
+abbrev at_t : After-over_strokes-u → After-chosen-t
 at_t c = c.before.before.before.before.before
 
 -- where t was taken over strokes, before its item was read
-abbrev at_u : goal.After-item_from-read → goal.After-over_strokes-u
+abbrev at_u : After-item_from-read → After-over_strokes-u
 at_u c = c.before.before.before.before.before
 
 -- the record of this turn, and its item
 there :
-    (c : goal.After-chosen-t)
+    (c : After-chosen-t)
     → get_elem? (level_of (start (head c)).args.bigs (levels_of (start (head c)).args.chart)) (head c).loop-k.k ≡ some c.chosen-t.result
 there c =
     let s = start (head c) in
@@ -44,7 +45,7 @@ there c =
     (rw (head c).chosen_count-n.ensures at c.loop-k-test.true) c.chosen-t.ensures
 
 read :
-    (c : goal.After-item_from-read)
+    (c : After-item_from-read)
     → read_of c.item_from-read.result
     ≡ row_item (start (head (at_t (at_u c)))).args.bigs (levels_of (start (head (at_t (at_u c)))).args.chart) (at_t (at_u c)).chosen-t.result
 read c =

@@ -12,17 +12,18 @@ use Rattle.laws.proofs.Arrays.{one_more}
 use Rattle.classes.proofs.Walked.{Carries, carries_first, carries-all, carries-pass, carries-none, carries-begins, carries-some}
 use borrow.Author.Tests.{not-true, not-false}
 use borrow.Author.Rules.{rules}
+use Rattle.classes.proofs.walk.Goals.{After-item_at-x, At-loop-i}
 use Rattle.classes.proofs.walk.Goals as goal
 
-abbrev items : goal.At-loop-i → List Item
+abbrev items : At-loop-i → List Item
 items c = let a = c.args in items_of a.n a.directions.now a.starts.now a.ends.now
 
 pub loop-i-init : goal.loop-i-init
 loop-i-init c = (omega arith, omega arith, refl, carries_first _ _)
 
 -- the next item
-here : (c : goal.After-item_at-x) → get_elem? (items c.before.before) c.loop-i.i ≡ some (item_of c.item_at_fact.result)
-here c = item_in _ _ _ _ _ _ c.loop-i-test.true c.item_at_fact.ensures
+here : (c : After-item_at-x) → get_elem? (items c.before.before) c.loop-i.i ≡ some (item_of c.item_at-x.result)
+here c = item_in _ _ _ _ _ _ c.loop-i-test.true c.item_at-x.ensures
 
 pub loop-i-preserved-then-not-next-i : goal.loop-i-preserved-then-not-next-i
 loop-i-preserved-then-not-next-i c =

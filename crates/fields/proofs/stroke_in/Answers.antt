@@ -7,4 +7,4 @@ use Rattle.fields.proofs.stroke_in.Goals as goal
 pub returns : goal.returns
 returns c =
     let read = c.before.before in
-    stroke-read _ _ _ read.triple_in_lem.ensures _ _ (sym c.price_at.ensures) (sym c.price_at-2.ensures)
+    stroke-read _ _ _ read.triple_in-begun.ensures _ _ (sym c.price_at.ensures) (sym c.price_at-2.ensures)

@@ -6,9 +6,10 @@ use Rattle.laws.proofs.Answers.{refused-rows}
 use Rattle.laws.proofs.Arrays.{length_via}
 use Rattle.first_marks.proofs.Call.{marks-refused, found, given-stand, marks-given}
 use borrow.Author.Rules.{rules}
+use Rattle.first_marks.proofs.first_markers.Goals.{Else-found-ne0}
 use Rattle.first_marks.proofs.first_markers.Goals as goal
 
-long : (c : goal.Else-found-ne0) → length c.classify_sup_segments-found.result.rows ≡ 256
+long : (c : Else-found-ne0) → length c.classify_sup_segments-found.result.rows ≡ 256
 long c = search (rules, length_via)
 
 pub returns-then-found-ne0 : goal.returns-then-found-ne0
@@ -25,4 +26,4 @@ marks_of-requires c =
 pub returns : goal.returns
 returns c =
     let at = c.before.before in
-    c.marks_of_fact.ensures ∙ marks-given _ _ _ _ _ at.classify_sup_segments-found.ensures at.if-found-ne0.false _
+    c.marks_of.ensures ∙ marks-given _ _ _ _ _ at.classify_sup_segments-found.ensures at.if-found-ne0.false _

@@ -22,18 +22,19 @@ use Rattle.first_marks.proofs.Neighbours.{Reads, reads_first, reads-last, stands
 use Rattle.first_marks.proofs.Neighbours.{marks-some, marks-all}
 use borrow.Author.Tests.{not-true, not-false}
 use borrow.Author.Rules.{rules}
+use Rattle.first_marks.proofs.marks_of.Goals.{After-beyond, After-inserted-more, After-struct_known-in-loop-i-1, After-struct_known-in-loop-i-2-1, After-struct_known-in-loop-i-3-1, After-struct_known-in-loop-i-4-1, After-struct_known-in-loop-i-5-1, Else-not-fitting, In-loop-i, Start}
 use Rattle.first_marks.proofs.marks_of.Goals as goal
 
-long : (c : goal.Start) → c.args.n ≤ length c.args.classes
+long : (c : Start) → c.args.n ≤ length c.args.classes
 long c = omega arith
 
-bigs_long : (c : goal.Start) → length c.args.chart.bigs ≡ 256
+bigs_long : (c : Start) → length c.args.chart.bigs ≡ 256
 bigs_long c = search (rules, length_via)
 
-segments_long : (c : goal.Start) → length c.args.chart.segments ≡ 256
+segments_long : (c : Start) → length c.args.chart.segments ≡ 256
 segments_long c = search (rules, length_via)
 
-strokes_long : (c : goal.Start) → length c.args.chart.strokes ≡ 512
+strokes_long : (c : Start) → length c.args.chart.strokes ≡ 512
 strokes_long c = search (rules, length_via)
 
 -- ---- the two classes of a turn, and the strokes that are read for them
@@ -60,32 +61,32 @@ module _ (c : tie.In-loop invariant-loop decreases-loop) where
   ends = reads-last start.args.t1 _ placed-next
 
 -- ---- the turn whose classes fit, from the places behind its reads
-abbrev turn : goal.Else-not-fitting → goal.In-loop-i
+abbrev turn : Else-not-fitting → In-loop-i
 turn c = c.before.before.before.before
 
-fits : (c : goal.Else-not-fitting) → fitting (start (turn c)).args.buy (class (turn c) (i (turn c))) (class (turn c) (i (turn c) + 1)) ≡ true
+fits : (c : Else-not-fitting) → fitting (start (turn c)).args.buy (class (turn c) (i (turn c))) (class (turn c) (i (turn c) + 1)) ≡ true
 fits c = sym c.fitting.ensures ∙ not-false _ c.if-not-fitting.false-raw
 
-abbrev from_a : goal.After-struct_known-in-loop-i-1 → goal.Else-not-fitting
+abbrev from_a : After-struct_known-in-loop-i-1 → Else-not-fitting
 from_a c = c.before.before.before
 
-abbrev from_s : goal.After-struct_known-in-loop-i-2-1 → goal.Else-not-fitting
+abbrev from_s : After-struct_known-in-loop-i-2-1 → Else-not-fitting
 from_s c = from_a c.before.before
 
-abbrev from_closing : goal.After-struct_known-in-loop-i-3-1 → goal.Else-not-fitting
+abbrev from_closing : After-struct_known-in-loop-i-3-1 → Else-not-fitting
 from_closing c = from_s c.before.before
 
-abbrev from_z : goal.After-struct_known-in-loop-i-4-1 → goal.Else-not-fitting
+abbrev from_z : After-struct_known-in-loop-i-4-1 → Else-not-fitting
 from_z c = from_closing c.before.before
 
-abbrev from_e : goal.After-struct_known-in-loop-i-5-1 → goal.Else-not-fitting
+abbrev from_e : After-struct_known-in-loop-i-5-1 → Else-not-fitting
 from_e c = from_z c.before.before
 
-abbrev compared : goal.After-beyond → goal.Else-not-fitting
+abbrev compared : After-beyond → Else-not-fitting
 compared c = from_e c.before.before
 
 -- the rows behind a mark that was put in
-rows_long : (c : goal.After-inserted-more) → length c.inserted-more.result.rows ≡ 256
+rows_long : (c : After-inserted-more) → length c.inserted-more.result.rows ≡ 256
 rows_long c = search (rules, length_via, c.inserted-more.type-inv)
 
 pub loop-i-init : goal.loop-i-init

@@ -6,15 +6,16 @@ use lib.ListN.{length}
 use borrow.Author.Rules.{rules}
 use Rattle.laws.proofs.Arrays.{length_via}
 use Rattle.kept.proofs.Live.{found-room, found-few, found-priced, live-count, live-refused, live-given}
+use Rattle.kept.proofs.bad_live.Goals.{After-detect_bigseg_zhongshus_by_overlap-found, Else-found-ne0, Else-n-gt256}
 use Rattle.kept.proofs.bad_live.Goals as goal
 
-rows_long : (c : goal.After-detect_bigseg_zhongshus_by_overlap-found) → length c.detect_bigseg_zhongshus_by_overlap-found.result.rows ≡ 256
+rows_long : (c : After-detect_bigseg_zhongshus_by_overlap-found) → length c.detect_bigseg_zhongshus_by_overlap-found.result.rows ≡ 256
 rows_long c = search (rules, length_via)
 
-few : (c : goal.Else-n-gt256) → c.args.n ≤ 256
+few : (c : Else-n-gt256) → c.args.n ≤ 256
 few c = omega (arith, c.if-n-gt256.false)
 
-given : (c : goal.Else-found-ne0) → c.detect_bigseg_zhongshus_by_overlap-found.result.number ≡ 0
+given : (c : Else-found-ne0) → c.detect_bigseg_zhongshus_by_overlap-found.result.number ≡ 0
 given c = omega (arith, c.if-found-ne0.false)
 
 pub returns-then-n-gt256 : goal.returns-then-n-gt256

@@ -1,8 +1,9 @@
 -- `kept::same_zone` meets its contract. Assumes nothing.
 use Rattle.kept.proofs.Same.{PricedZone, priced, same-fields}
+use Rattle.kept.proofs.same_zone.Goals.{After-struct_known-6-1}
 use Rattle.kept.proofs.same_zone.Goals as goal
 
-prices : (c : goal.After-struct_known-6-1) → PricedZone c.args.b
+prices : (c : After-struct_known-6-1) → PricedZone c.args.b
 prices c = priced _ c.requires
 
 pub same_price-requires : goal.same_price-requires

@@ -7,18 +7,19 @@ use borrow.Author.Rules.{rules}
 use borrow.Author.Tests.{not-true, not-false}
 use Rattle.rules.specs.Refusals.{same_zones}
 use Rattle.kept.proofs.Same.{priced-at, other-count, same_here, same-later, same_end}
+use Rattle.kept.proofs.same_zones.Goals.{In-loop-i, Start}
 use Rattle.kept.proofs.same_zones.Goals as goal
 
-left_long : (c : goal.Start) → c.args.n ≤ length c.args.a
+left_long : (c : Start) → c.args.n ≤ length c.args.a
 left_long c = omega arith
 
-right_long : (c : goal.Start) → c.args.m ≤ length c.args.b
+right_long : (c : Start) → c.args.m ≤ length c.args.b
 right_long c = omega arith
 
-inside : (c : goal.In-loop-i) → c.loop-i.i < c.args.n
+inside : (c : In-loop-i) → c.loop-i.i < c.args.n
 inside c = omega (arith, c.loop-i-test.true)
 
-below : (c : goal.In-loop-i) → c.loop-i.i < c.args.m
+below : (c : In-loop-i) → c.loop-i.i < c.args.m
 below c = omega (arith, inside c, c.if-n-m.false)
 
 pub returns-then-n-m : goal.returns-then-n-m

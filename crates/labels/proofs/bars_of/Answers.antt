@@ -24,7 +24,7 @@ loop-k-preserved c =
       search rules,
       search rules,
       λ l t. columns-more l _ _ _ t head.loop-k.k head.loop-k.starts head.loop-k.ends (inv.3 l t) _ _ _ turn.loop-k-test.true
-          (search rules) (search rules) read.range_at.ensures c.bar_of_lem.ensures.0 c.bar_of_lem.ensures.1,
+          (search rules) (search rules) read.range_at.ensures c.bar_of-bar.ensures.0 c.bar_of-bar.ensures.1,
     )
 
 pub returns : goal.returns

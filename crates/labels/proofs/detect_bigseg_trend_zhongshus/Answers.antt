@@ -2,13 +2,14 @@
 use mathlib.Core.Path.{refl, ◌∙◌}
 use borrow.Author.Rules.{rules}
 use Rattle.labels.proofs.Call.{labels_by}
+use Rattle.labels.proofs.detect_bigseg_trend_zhongshus.Goals.{After-prices-2-1, After-tables_of-begun, Else-begun-ne0}
 use Rattle.labels.proofs.detect_bigseg_trend_zhongshus.Goals as goal
 
 -- the call is not refused
-abbrev else1 : goal.After-prices-2-1 → goal.Else-begun-ne0
+abbrev else1 : After-prices-2-1 → Else-begun-ne0
 else1 c = c.before.before.before.before.before
 
-abbrev begun : goal.Else-begun-ne0 → goal.After-tables_of-begun
+abbrev begun : Else-begun-ne0 → After-tables_of-begun
 begun c = c.before.before
 
 pub tables_of-begun-requires : goal.tables_of-begun-requires

@@ -12,47 +12,48 @@ use Rattle.laws.proofs.Answers.{Counted}
 use Rattle.levels.proofs.Tests.{both, any_here, any-later, any_none, counts-fit, bad-counts, bad-segments, bad-bigs, bad-superiors, bad-strokes}
 use Rattle.levels.proofs.Read.{no_stroke}
 use borrow.Author.Rules.{rules}
+use Rattle.levels.proofs.bad_chart.Goals.{At-loop-i, At-loop-k, Else-overfull, In-loop-i, In-loop-k, Start}
 use Rattle.levels.proofs.bad_chart.Goals as goal
 
-strokes_long : (c : goal.Start) → length c.args.chart.strokes ≡ 512
+strokes_long : (c : Start) → length c.args.chart.strokes ≡ 512
 strokes_long c = search (rules, length_via)
 
-fits : (c : goal.Else-overfull) → Counted c.args.chart
+fits : (c : Else-overfull) → Counted c.args.chart
 fits c = counts-fit c.args.chart (sym c.overfull.ensures ∙ c.if-overfull.false)
 
-abbrev start : goal.At-loop-k → goal.Start
+abbrev start : At-loop-k → Start
 start c = c.before.before.before.before.before.before.before.before.before.before.before.before
 
-long : (c : goal.At-loop-k) → (start c).args.chart.stroke_count ≤ length (start c).args.chart.strokes
+long : (c : At-loop-k) → (start c).args.chart.stroke_count ≤ length (start c).args.chart.strokes
 long c = omega (arith, c.loop-k.invariant, strokes_long (start c))
 
-more : (c : goal.In-loop-k) → c.loop-k.k < (start c.before).args.chart.stroke_count
+more : (c : In-loop-k) → c.loop-k.k < (start c.before).args.chart.stroke_count
 more c = omega (arith, c.loop-k-test.true)
 
 -- the first loop, where the second stands
-abbrev first_loop : goal.At-loop-i → goal.At-loop-k
+abbrev first_loop : At-loop-i → At-loop-k
 first_loop c = c.before.before.before
 
-more_2 : (c : goal.In-loop-i) → c.loop-i.i < (start (first_loop c.before)).args.chart.stroke_count
+more_2 : (c : In-loop-i) → c.loop-i.i < (start (first_loop c.before)).args.chart.stroke_count
 more_2 c = omega (arith, c.loop-i-test.true)
 
 pub returns-then-overfull : goal.returns-then-overfull
 returns-then-overfull c = bad-counts _ (sym c.overfull.ensures ∙ c.if-overfull.true)
 
 pub wrong_triples-requires : goal.wrong_triples-requires
-wrong_triples-requires c = (fits c.before).segments-1
+wrong_triples-requires c = (fits c.before).segments
 
 pub returns-then-wrong_triples : goal.returns-then-wrong_triples
 returns-then-wrong_triples c = bad-segments _ (sym c.wrong_triples.ensures ∙ c.if-wrong_triples.true)
 
 pub wrong_triples-requires-2 : goal.wrong_triples-requires-2
-wrong_triples-requires-2 c = (fits c.before.before.before.before).bigs-1
+wrong_triples-requires-2 c = (fits c.before.before.before.before).bigs
 
 pub returns-then-wrong_triples-2 : goal.returns-then-wrong_triples-2
 returns-then-wrong_triples-2 c = bad-bigs _ (sym c.wrong_triples-2.ensures ∙ c.if-wrong_triples-2.true)
 
 pub wrong_triples-requires-3 : goal.wrong_triples-requires-3
-wrong_triples-requires-3 c = (fits c.before.before.before.before.before.before.before).superiors-1
+wrong_triples-requires-3 c = (fits c.before.before.before.before.before.before.before).superiors
 
 pub returns-then-wrong_triples-3 : goal.returns-then-wrong_triples-3
 returns-then-wrong_triples-3 c = bad-superiors _ (sym c.wrong_triples-3.ensures ∙ c.if-wrong_triples-3.true)

@@ -7,10 +7,11 @@ use borrow.Author.Rules.{rules}
 use Rattle.rules.specs.Ranges.{spanned}
 use Rattle.levels.specs.Read.{stroke_if, range_from}
 use Rattle.levels.proofs.Read.{no_end}
+use Rattle.levels.proofs.range_from.Goals.{Else-segments-b}
 use Rattle.levels.proofs.range_from.Goals as goal
 
 -- the first segment is there where the last is
-first_there : (c : goal.Else-segments-b) → let a = c.args in a.b.first < a.segments
+first_there : (c : Else-segments-b) → let a = c.args in a.b.first < a.segments
 first_there c = omega (arith, c.if-b.false, c.if-segments-b.false)
 
 pub returns-then-b : goal.returns-then-b
@@ -39,7 +40,7 @@ returns c =
     let at4 = c.before in
     let at3 = at4.before.before in
     let at2 = at3.before.before in
-    c.Span-of.ensures
+    c.span_of.ensures
     ∙ simp (
       le-leb _ _ at2.if-b.false,
       lt-ltb _ _ (first_there at2),

@@ -4,12 +4,13 @@ use mathlib.Core.Path.{◌≡◌, ◌∙◌}
 use Rattle.laws.proofs.Arrays.{length_via}
 use Rattle.levels.proofs.Read.{range-read}
 use borrow.Author.Rules.{rules}
+use Rattle.levels.proofs.range_of.Goals.{Start}
 use Rattle.levels.proofs.range_of.Goals as goal
 
-segments_long : (c : goal.Start) → length c.args.chart.segments ≡ 256
+segments_long : (c : Start) → length c.args.chart.segments ≡ 256
 segments_long c = search (rules, length_via)
 
-strokes_long : (c : goal.Start) → length c.args.chart.strokes ≡ 512
+strokes_long : (c : Start) → length c.args.chart.strokes ≡ 512
 strokes_long c = search (rules, length_via)
 
 pub returns : goal.returns

@@ -8,4 +8,4 @@ unfolding spanned
 returns c =
     let low = c.before.before.before in
     let high = low.before.before.before in
-    simp (high.lower.ensures, high.higher.ensures, low.bar_of_lem.ensures, c.bar_of-2.ensures)
+    simp (high.lower.ensures, high.higher.ensures, low.bar_of.ensures, c.bar_of-2.ensures)

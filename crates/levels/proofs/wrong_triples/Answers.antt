@@ -10,9 +10,10 @@ use Rattle.rules.specs.Lists.{any}
 use Rattle.rules.specs.Refusals.{wrong_triple}
 use Rattle.levels.proofs.Read.{no_triple}
 use Rattle.levels.proofs.Tests.{met-none, met-more}
+use Rattle.levels.proofs.wrong_triples.Goals.{Start}
 use Rattle.levels.proofs.wrong_triples.Goals as goal
 
-long : (c : goal.Start) → c.args.n ≤ length c.args.triples
+long : (c : Start) → c.args.n ≤ length c.args.triples
 long c = omega arith
 
 pub loop-i-init : goal.loop-i-init

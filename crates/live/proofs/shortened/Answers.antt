@@ -4,13 +4,14 @@ use borrow.Author.Rules.{rules}
 use Rattle.laws.proofs.Arrays.{length_via, Sized, sized_via}
 use Rattle.laws.proofs.Levels.{stroke, above, segment, big, superior}
 use Rattle.live.proofs.Levelled.{some-record, withdraw-does, third-level}
+use Rattle.live.proofs.shortened.Goals.{Else-level-eq2, Start}
 use Rattle.live.proofs.shortened.Goals as goal
 
-sized : (c : goal.Start) → Sized c.args.chart
+sized : (c : Start) → Sized c.args.chart
 sized c = search (rules, length_via, sized_via)
 
 -- the level is the third where it is none of the others
-is_third : (c : goal.Else-level-eq2) → c.args.level ≡ 3
+is_third : (c : Else-level-eq2) → c.args.level ≡ 3
 is_third c = third-level _ _ c.if-level-eq0.false c.if-level-eq1.false c.if-level-eq2.false c.requires
 
 pub overflow_sub-next : goal.overflow_sub-next

@@ -4,16 +4,17 @@ use Prim.Native.Nat.{◌-◌}
 use native.Mathlib.Omega.{arith}
 use borrow.Author.Rules.{rules}
 use Rattle.mark_anchors.proofs.Rows.{AnchorsSoFar, anchors-first, anchors-all, anchors-nowhere, anchors-at}
+use Rattle.mark_anchors.proofs.anchor_rows.Goals.{After-anchor_at-anchor, At-loop-i, In-At, Start}
 use Rattle.mark_anchors.proofs.anchor_rows.Goals as goal
 
 -- the places of the code that the proof goes back to
-abbrev start : goal.At-loop-i → goal.Start
+abbrev start : At-loop-i → Start
 start c = c.before.before.before.before.before.before.before.before
 
-abbrev head_of : goal.After-anchor_at-anchor → goal.At-loop-i
+abbrev head_of : After-anchor_at-anchor → At-loop-i
 head_of c = c.before.before.before.before
 
-abbrev anchor_of : goal.In-At → goal.After-anchor_at-anchor
+abbrev anchor_of : In-At → After-anchor_at-anchor
 anchor_of c = c.before.before.before
 
 pub loop-i-init : goal.loop-i-init

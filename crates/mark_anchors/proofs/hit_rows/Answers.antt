@@ -7,33 +7,34 @@ use borrow.Author.Tests.{not-true, not-false}
 use Rattle.mark_hits.proofs.Ends.{end_later}
 use Rattle.mark_rows.proofs.Gathered.{room_512}
 use Rattle.mark_anchors.proofs.Numbers.{HitsSoFar, pushed-first, pushed-all, pushed-over, pushed-stopped, pushed-missed, pushed_more}
+use Rattle.mark_anchors.proofs.hit_rows.Goals.{After-hit_row-count, After-is_hit, After-next_end-end, After-reached, At-loop-k, Start}
 use Rattle.mark_anchors.proofs.hit_rows.Goals as goal
 
 -- the places of the code that the proof goes back to
-abbrev start : goal.At-loop-k → goal.Start
+abbrev start : At-loop-k → Start
 start c = c.before.before.before.before.before
 
-abbrev head_of : goal.After-next_end-end → goal.At-loop-k
+abbrev head_of : After-next_end-end → At-loop-k
 head_of c = c.before.before.before
 
-abbrev end_of : goal.After-reached → goal.After-next_end-end
+abbrev end_of : After-reached → After-next_end-end
 end_of c = c.before.before.before.before
 
-abbrev reached_of : goal.After-is_hit → goal.After-reached
+abbrev reached_of : After-is_hit → After-reached
 reached_of c = c.before.before.before
 
-abbrev hit_of : goal.After-hit_row-count → goal.After-is_hit
+abbrev hit_of : After-hit_row-count → After-is_hit
 hit_of c = c.before.before.before.before.before.before
 
 -- where the next end lies, and how many rows there are
 later :
-    (c : goal.After-reached)
+    (c : After-reached)
     → ((head_of (end_of c)).loop-k.k < c.in-At.next) × (c.in-At.next ≤ (start (head_of (end_of c))).args.hits.bigs)
 later c =
     let next = end_later _ _ (end_of c).next_end-end.result _ _ _ (end_of c).next_end-end.ensures.later_end c.in-At.is in
     (next.0, next.1)
 
-few : (c : goal.At-loop-k) → c.loop-k.count ≤ 512
+few : (c : At-loop-k) → c.loop-k.count ≤ 512
 few c =
     let room = (start c).requires.has_room in
     let inv = c.loop-k.invariant in

@@ -5,13 +5,14 @@ use mathlib.Core.Path.{sym, ◌∙◌}
 use borrow.Author.Rules.{rules}
 use Rattle.tables.specs.Rows.{Wide}
 use Rattle.mark_hits.proofs.Anchors.{AnchorsFound, found_none, found-missing, found-more, found_all}
+use Rattle.mark_hits.proofs.anchors_of.Goals.{After-next_end-end, After-point_at, At-loop-i}
 use Rattle.mark_hits.proofs.anchors_of.Goals as goal
 
 -- the places of the code that the proof goes back to
-abbrev head_of : goal.After-point_at → goal.At-loop-i
+abbrev head_of : After-point_at → At-loop-i
 head_of c = c.before.before.before
 
-abbrev read_of : goal.After-next_end-end → goal.After-point_at
+abbrev read_of : After-next_end-end → After-point_at
 read_of c = c.before.before.before.before.before
 
 pub loop-i-init : goal.loop-i-init

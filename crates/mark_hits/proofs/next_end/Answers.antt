@@ -9,16 +9,17 @@ use Rattle.rules.specs.Records.{Levels}
 use Rattle.tables.specs.Tables.{Bigs}
 use Rattle.mark_hits.specs.Anchors.{ends_in}
 use Rattle.mark_hits.proofs.Ends.{ends-over, ends-other, ends_nowhere, ends-soon, ends-here}
+use Rattle.mark_hits.proofs.next_end.Goals.{After-is_behind, After-is_way, After-point_at, In-loop-k}
 use Rattle.mark_hits.proofs.next_end.Goals as goal
 
 -- the places of the code that the proof goes back to
-abbrev in-loop : goal.After-is_way → goal.In-loop-k
+abbrev in-loop : After-is_way → In-loop-k
 in-loop c = c.before.before
 
-abbrev way_of : goal.After-point_at → goal.After-is_way
+abbrev way_of : After-point_at → After-is_way
 way_of c = c.before.before
 
-abbrev read_of : goal.After-is_behind → goal.After-point_at
+abbrev read_of : After-is_behind → After-point_at
 read_of c = c.before.before.before.before
 
 pub loop-k-init : goal.loop-k-init

@@ -6,17 +6,18 @@ use mathlib.Core.Logic.{⊎_elim}
 use lib.ListN.{get_or, length}
 use borrow.Author.Rules.{rules}
 use Rattle.mark_rows.proofs.Bars.{inserted-none, inserted_new}
+use Rattle.mark_rows.proofs.insert_bar.Goals.{Joined-at-n, Start}
 use Rattle.mark_rows.proofs.insert_bar.Goals as goal
 
-long : (c : goal.Start) → c.args.n ≤ length c.args.bars.now
+long : (c : Start) → c.args.n ≤ length c.args.bars.now
 long c = omega arith
 
 -- where the bar is not put aside, another one stands in its place
 other :
-    (c : goal.Joined-at-n)
+    (c : Joined-at-n)
     → let found = c.before in
     let args = found.args in
-    found.bar_place-at.result < args.n → get_or args.bars-1.now found.bar_place-at.result 0 ≡ args.bar → ⊥
+    found.bar_place-at.result < args.n → get_or args.bars.now found.bar_place-at.result 0 ≡ args.bar → ⊥
 other c h e = ⊎_elim (λ w. w.2.false e) (λ w. omega arith) c.if-at-n.branch
 
 pub start_at-start-requires : goal.start_at-start-requires

@@ -4,9 +4,10 @@ use native.Mathlib.Omega.{arith}
 use lib.ListN.{length}
 use borrow.Author.Rules.{rules}
 use Rattle.mark_rows.proofs.Numbers.{bar-first, bar-zero, bar-before, bar-next}
+use Rattle.mark_rows.proofs.number_bar.Goals.{Start}
 use Rattle.mark_rows.proofs.number_bar.Goals as goal
 
-long : (c : goal.Start) → c.args.zeros ≤ length c.args.keys.now
+long : (c : Start) → c.args.zeros ≤ length c.args.keys.now
 long c = omega arith
 
 pub returns-then-next-eq0 : goal.returns-then-next-eq0

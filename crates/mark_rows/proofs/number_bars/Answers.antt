@@ -6,15 +6,16 @@ use borrow.Author.Rules.{rules}
 use Rattle.laws.proofs.Lists.{all_in}
 use Rattle.mark_rows.proofs.Gathered.{room_512}
 use Rattle.mark_rows.proofs.Numbers.{taken_at, Numbering, numbering-first, numbering-next, numbering-all}
+use Rattle.mark_rows.proofs.number_bars.Goals.{At-loop-i, In-loop-i}
 use Rattle.mark_rows.proofs.number_bars.Goals as goal
 
-few : (c : goal.At-loop-i) → c.loop-i.count ≤ 512
+few : (c : At-loop-i) → c.loop-i.count ≤ 512
 few c =
     let start = c.before.before.before.before in
     let inv = c.loop-i.invariant in
     room_512 (inv.room start.requires.by_index.0 start.requires.by_index.1 start.requires.by_index.2) (omega (arith, inv.grown.long, start.requires.k_in_bounds))
 
-small : (c : goal.In-loop-i) → get_or c.args.bars.now c.loop-i.i 0 < 0x1_0000
+small : (c : In-loop-i) → get_or c.args.bars.now c.loop-i.i 0 < 0x1_0000
 small c =
     let start = c.before.before.before.before.before in
     all_in start.requires.by_index.1.small (taken_at _ c.loop-i.i _ 0 start.requires.by_index.2 c.loop-i-test.true start.requires.k_in_bounds.0)

@@ -6,12 +6,13 @@ use lib.ListN.{length, length-set}
 use lib.Seq.{take-set-le}
 use borrow.Author.Rules.{rules}
 use Rattle.mark_rows.proofs.Gathered.{pushed-repeat, pushed-new, room-new}
+use Rattle.mark_rows.proofs.put_row.Goals.{Start}
 use Rattle.mark_rows.proofs.put_row.Goals as goal
 
-long : (c : goal.Start) → c.args.n ≤ length c.args.keys.now
+long : (c : Start) → c.args.n ≤ length c.args.keys.now
 long c = omega arith
 
-room : (c : goal.Start) → c.args.n ≤ length c.args.orders.now
+room : (c : Start) → c.args.n ≤ length c.args.orders.now
 room c = omega arith
 
 pub returns-then-i-n : goal.returns-then-i-n

@@ -4,16 +4,17 @@ use native.Mathlib.Omega.{arith}
 use mathlib.Core.Path.{refl}
 use Rattle.mark_scan.proofs.Scans.{zone-scan}
 use borrow.Author.Rules.{rules}
+use Rattle.mark_scan.proofs.scan_of.Goals.{After-wide-owner, Start}
 use Rattle.mark_scan.proofs.scan_of.Goals as goal
 
-abbrev start : goal.After-wide-owner → goal.Start
+abbrev start : After-wide-owner → Start
 start c = c.before.before
 
 -- the zone's superior is one of the superiors
-below : (c : goal.After-wide-owner) → c.wide-owner.result < (start c).args.counts.superiors
+below : (c : After-wide-owner) → c.wide-owner.result < (start c).args.counts.superiors
 below c = omega (arith, c.wide-owner.ensures.0, (start c).requires.owners_below.0.0 (start c).args.at (start c).requires.fits.1)
 
-few : (c : goal.After-wide-owner) → c.wide-owner.result < 256
+few : (c : After-wide-owner) → c.wide-owner.result < 256
 few c = omega (arith, below c, (start c).requires.fits.0.superiors)
 
 -- CONVERT lost goal bounds-1-way

@@ -8,11 +8,12 @@ use Rattle.rules.specs.Records.{Levels}
 use Rattle.rules.specs.Marks.{leaving}
 use Rattle.tables.specs.Tables.{Bigs}
 use Rattle.mark_scan.proofs.Pairs.{start-missing, start-here, start-pass, start_none}
+use Rattle.mark_scan.proofs.start_of.Goals.{In-loop-k}
 use Rattle.mark_scan.proofs.start_of.Goals as goal
 
 -- the place of this turn is below both `last + 1` and m
 within :
-    (c : goal.In-loop-k)
+    (c : In-loop-k)
     → (c.loop-k.k < suc c.args.last) × (c.loop-k.k < c.args.m)
 within c = (omega (arith, c.loop-k.invariant.2, c.loop-k-test.true), omega (arith, c.loop-k.invariant.0, c.loop-k-test.true))
 

@@ -2,13 +2,14 @@
 use Rattle.mark_scan.specs.Scan.{StartsRise}
 use Rattle.mark_scan.proofs.Stops.{behind-all}
 use borrow.Author.Rules.{rules}
+use Rattle.mark_scan.proofs.zone_limit.Goals.{Start, Then-zb-at}
 use Rattle.mark_scan.proofs.zone_limit.Goals as goal
 
 -- the start of the way through both tests
-abbrev start : goal.Then-zb-at → goal.Start
+abbrev start : Then-zb-at → Start
 start c = c.before.before.before.before.before
 
-rises : (c : goal.Then-zb-at) → StartsRise (start c).args.n (start c).args.zb.now
+rises : (c : Then-zb-at) → StartsRise (start c).args.n (start c).args.zb.now
 rises c = (start c).requires.2 c.if-rise.true
 
 pub zone_behind-requires : goal.zone_behind-requires

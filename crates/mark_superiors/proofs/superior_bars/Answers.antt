@@ -3,13 +3,14 @@
 use Prim.Native.Nat.{◌-◌}
 use borrow.Author.Rules.{rules}
 use Rattle.mark_superiors.proofs.SuperiorBars.{ZonesSoFar, taken-first, taken-over, taken-other, taken_next}
+use Rattle.mark_superiors.proofs.superior_bars.Goals.{After-scan_at-scan, At-loop-i, Start}
 use Rattle.mark_superiors.proofs.superior_bars.Goals as goal
 
 -- the places of the code that the proof goes back to
-abbrev head : goal.After-scan_at-scan → goal.At-loop-i
+abbrev head : After-scan_at-scan → At-loop-i
 head c = c.before.before.before
 
-abbrev begun : goal.At-loop-i → goal.Start
+abbrev begun : At-loop-i → Start
 begun c = c.before.before
 
 pub loop-i-init : goal.loop-i-init

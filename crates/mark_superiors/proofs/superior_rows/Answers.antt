@@ -7,20 +7,21 @@ use mathlib.Core.List.{List}
 use borrow.Author.Rules.{rules}
 use Rattle.mark_superiors.proofs.ZoneBars.{room_among}
 use Rattle.mark_superiors.proofs.SuperiorRows.{RowsSoFar, numbered-first, numbered-all, numbered_next, bars-there}
+use Rattle.mark_superiors.proofs.superior_rows.Goals.{After-superior_bars-taken, At-loop-i, In-loop-i, Start}
 use Rattle.mark_superiors.proofs.superior_rows.Goals as goal
 
 -- the places of the code that the proof goes back to
-abbrev begun : goal.At-loop-i → goal.Start
+abbrev begun : At-loop-i → Start
 begun c = c.before.before.before
 
-abbrev turn : goal.After-superior_bars-taken → goal.In-loop-i
+abbrev turn : After-superior_bars-taken → In-loop-i
 turn c = c.before.before
 
-abbrev head : goal.In-loop-i → goal.At-loop-i
+abbrev head : In-loop-i → At-loop-i
 head c = c.before.before
 
 -- the bars of a superior as they are then
-abbrev bars-of : goal.After-superior_bars-taken → List ℕ
+abbrev bars-of : After-superior_bars-taken → List ℕ
 bars-of c = c.superior_bars-taken.new.1.1.1.1.1.1.0
 
 pub loop-i-init : goal.loop-i-init

@@ -5,16 +5,17 @@ use native.Mathlib.Omega.{arith}
 use borrow.Author.Rules.{rules}
 use Rattle.mark_scan.proofs.Pairs.{pair_later}
 use Rattle.mark_superiors.proofs.ZoneBars.{PairsSoFar, put_first, put-room, put-none, put-over, put-pair}
+use Rattle.mark_superiors.proofs.zone_bars.Goals.{After-next_pair-pair, At-loop-at, Start}
 use Rattle.mark_superiors.proofs.zone_bars.Goals as goal
 
 -- the places of the code that the proof goes back to
-abbrev begun : goal.At-loop-at → goal.Start
+abbrev begun : At-loop-at → Start
 begun c = c.before.before.before
 
-abbrev head : goal.After-next_pair-pair → goal.At-loop-at
+abbrev head : After-next_pair-pair → At-loop-at
 head c = c.before.before
 
-few : (c : goal.At-loop-at) → c.loop-at.count ≤ 256
+few : (c : At-loop-at) → c.loop-at.count ≤ 256
 few c =
     let chart = (begun c).requires.bigs in
     put-room _ _ _ _ _ _ _ _ _ c.loop-at.at c.loop-at.invariant chart.0 chart.1 chart.2

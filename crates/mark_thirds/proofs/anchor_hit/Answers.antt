@@ -13,13 +13,14 @@ use Rattle.mark_hits.specs.Anchors.{end_bars_in}
 use Rattle.mark_hits.proofs.Ends.{end_later}
 use Rattle.mark_hits.proofs.Anchors.{bars-none, bars-over, bars-next}
 use Rattle.mark_hits.proofs.Hits.{hits-over, hit-first, hit_later}
+use Rattle.mark_thirds.proofs.anchor_hit.Goals.{At-loop-k, Start}
 use Rattle.mark_thirds.proofs.anchor_hit.Goals as goal
 
-abbrev start : goal.At-loop-k → goal.Start
+abbrev start : At-loop-k → Start
 start head = head.before.before.before
 
 -- the test of a hit
-abbrev beat : goal.At-loop-k → ℕ → Bool
+abbrev beat : At-loop-k → ℕ → Bool
 beat head =
     let args = (start head).args in
     beats (record { highs = args.highs.now; lows = args.lows.now }) args.side.buy args.p

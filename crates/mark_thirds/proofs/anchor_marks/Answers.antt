@@ -18,15 +18,16 @@ use Rattle.mark_hits.proofs.Anchors.{anchor_here}
 use Rattle.mark_thirds.specs.Third.{Marked}
 use Rattle.mark_thirds.proofs.Marked.{marked_next, marked_all}
 use Rattle.mark_thirds.proofs.HitMarks.{hit_on_bar, anchor-nowhere, anchor-is}
+use Rattle.mark_thirds.proofs.anchor_marks.Goals.{At-loop-i, Start}
 use Rattle.mark_thirds.proofs.anchor_marks.Goals as goal
 
-abbrev start : goal.At-loop-i → goal.Start
+abbrev start : At-loop-i → Start
 start head = head.before.before.before.before.before.before.before
 
-abbrev quotes : goal.At-loop-i → Quotes
+abbrev quotes : At-loop-i → Quotes
 quotes head = record { highs = (start head).args.highs.now; lows = (start head).args.lows.now }
 
-abbrev side : goal.At-loop-i → Side
+abbrev side : At-loop-i → Side
 side head = (start head).args.side
 
 pub loop-i-init : goal.loop-i-init

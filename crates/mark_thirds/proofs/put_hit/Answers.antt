@@ -5,13 +5,14 @@ use lib.ListN.{length-set}
 use borrow.Author.Rules.{rules}
 use Rattle.mark_thirds.specs.Third.{OnBar}
 use Rattle.mark_thirds.proofs.Marked.{hit-none, hit-put, put-repeat, put_new}
+use Rattle.mark_thirds.proofs.put_hit.Goals.{After-seen, In-At-2, Start}
 use Rattle.mark_thirds.proofs.put_hit.Goals as goal
 
 -- the places of the code that the proof goes back to
-abbrev told : goal.After-seen → goal.In-At-2
+abbrev told : After-seen → In-At-2
 told c = c.before.before.before.before
 
-abbrev start : goal.In-At-2 → goal.Start
+abbrev start : In-At-2 → Start
 start c = c.before.before.before
 
 pub returns-in_default : goal.returns-in_default

@@ -16,12 +16,13 @@ use Rattle.mark_scan.specs.Scan.{Scanned}
 use Rattle.mark_thirds.specs.Third.{Marked}
 use Rattle.mark_thirds.proofs.Marked.{marked-none, marked_next, marked_all, marked-zoned}
 use Rattle.mark_thirds.proofs.HitMarks.{hit_on_bar, third_at, marked_whole}
+use Rattle.mark_thirds.proofs.thirds_of.Goals.{At-loop-i, Start}
 use Rattle.mark_thirds.proofs.thirds_of.Goals as goal
 
-abbrev start : goal.At-loop-i → goal.Start
+abbrev start : At-loop-i → Start
 start head = head.before.before.before.before
 
-abbrev quotes : goal.At-loop-i → Quotes
+abbrev quotes : At-loop-i → Quotes
 quotes head = record { highs = (start head).args.highs.now; lows = (start head).args.lows.now }
 
 pub loop-i-init : goal.loop-i-init
@@ -59,7 +60,7 @@ loop-i-preserved c =
       λ l zb t s.
           let zs = overlap_zones l in
           marked_next (zone_third l (quotes head) zs) 512 _ _ _ [] zs i no_zone _ (omega (arith, more, t.zones.count))
-          (third_at l (quotes head) zs _ _ zb _ s.scans t.zones i more _ at-scan.scan_at-scan.ensures _ at_Edge.Edge-of.ensures _
+          (third_at l (quotes head) zs _ _ zb _ s.scans t.zones i more _ at-scan.scan_at-scan.ensures _ at_Edge.edge_of-edge.ensures _
           (lt-ltb head.loop-i.zoned 512 (omega (arith, inv.0, more, (start head).requires.0.zones)))
           at-hit.zone_hit-hit.result (λ stop lim. at-hit.zone_hit-hit.ensures.zone_hit l stop t.bigs lim) at-hit.zone_hit-hit.ensures.lent_price)
           (at-put.put_hit-zoned.ensures.puts_hit 512 _ (inv.4 l zb t s)),

@@ -1,7 +1,7 @@
 -- `playback::replay` meets its contract. Assumes nothing.
 use mathlib.Core.Path.{sym, ap, ◌∙◌}
 use borrow.Author.Rules.{rules}
-use Rattle.log.specs.Entries.{place_of}
+use Rattle.call_log.specs.Entries.{place_of}
 use Rattle.playback.proofs.Turns.{stopped}
 use Rattle.playback.proofs.replay.Goals as goal
 

@@ -7,15 +7,16 @@ use lib.ListN.{length}
 use borrow.Author.Rules.{rules}
 use Rattle.laws.proofs.Tests.{none-some}
 use Rattle.rules.specs.Machine.{call_of}
-use Rattle.log.specs.Log.{call, bar}
-use Rattle.log.specs.Entries.{entry_of}
-use Rattle.log.proofs.Steps.{Stepped}
+use Rattle.call_log.specs.Log.{call, bar}
+use Rattle.call_log.specs.Entries.{entry_of}
+use Rattle.call_log.proofs.Steps.{Stepped}
 use Rattle.playback.proofs.Turns.{Underway, begins, stepped, room, bar-room, further-call, further-bar, finished}
+use Rattle.playback.proofs.run.Goals.{After-next_entry-n, In-Bad, In-Bar-2, In-Call-2}
 use Rattle.playback.proofs.run.Goals as goal
 
 -- the entry at the place
 entry_at :
-    (c : goal.After-next_entry-n)
+    (c : After-next_entry-n)
     → Stepped c.args.log.now c.loop-at.at c.loop-at.bars
     c.loop-at.invariant.false
     (entry_of c.next_entry-n.result.entry)
@@ -25,24 +26,24 @@ entry_at c = stepped _ _ _ _ _ _ _ _ _ c.loop-at.invariant _ _ _ c.next_entry-n.
 
 -- a call, and room for its answer
 call_at :
-    (c : goal.In-Call-2)
+    (c : In-Call-2)
     → entry_of c.next_entry-n.result.entry ≡ some (call (call_of c.in-Call.call))
 call_at c = ap entry_of c.in-Call.is
 
-fits : (c : goal.In-Call-2) → c.loop-at.count < 32768
+fits : (c : In-Call-2) → c.loop-at.count < 32768
 fits c = room _ _ _ _ _ _ _ _ _ c.loop-at.invariant _ _ _ (entry_at c.before.before)
 
 -- a bar, and room for it
 bar-at :
-    (c : goal.In-Bar-2)
+    (c : In-Bar-2)
     → entry_of c.next_entry-n.result.entry ≡ some (bar c.in-Bar.high c.entry-in-Bar-1.given.0.1.0)
 bar-at c = ap entry_of c.in-Bar.is
 
-bar-fits : (c : goal.In-Bar-2) → c.loop-at.bars < 2048
+bar-fits : (c : In-Bar-2) → c.loop-at.bars < 2048
 bar-fits c = bar-room _ _ _ _ _ _ _ _ _ c.loop-at.invariant _ _ _ (entry_at c.before.before) _ _ (bar-at c)
 
 -- no entry is bad
-never_bad : (c : goal.In-Bad) → ⊥
+never_bad : (c : In-Bad) → ⊥
 never_bad c = none-some (sym (ap entry_of c.in-Bad.is) ∙ (entry_at c.before.before).is)
 
 pub loop-at-init : goal.loop-at-init

@@ -4,13 +4,14 @@ use lib.ListN.{length}
 use lib.Seq.{length-take-le}
 use borrow.Author.Rules.{rules}
 use Rattle.sequel.proofs.Sequels.{room, after}
+use Rattle.sequel.proofs.replay_then_marks.Goals.{After-replay-run}
 use Rattle.sequel.proofs.replay_then_marks.Goals as goal
 
 -- the log's bars are places of both arrays
-highs_fit : (c : goal.After-replay-run) → c.replay-run.result.bars ≤ length c.replay-run.result.highs
+highs_fit : (c : After-replay-run) → c.replay-run.result.bars ≤ length c.replay-run.result.highs
 highs_fit c = (room _ _ c.replay-run.ensures).0
 
-lows_fit : (c : goal.After-replay-run) → c.replay-run.result.bars ≤ length c.replay-run.result.lows
+lows_fit : (c : After-replay-run) → c.replay-run.result.bars ≤ length c.replay-run.result.lows
 lows_fit c = (room _ _ c.replay-run.ensures).1
 
 ruleset fit = (rules, highs_fit, lows_fit, length-take-le)

@@ -21,44 +21,45 @@ use Rattle.tables.specs.Rows.{Wide, rowsIn}
 use Rattle.tables.specs.Tables.{big_of, big_in, Bigs}
 use Rattle.tables.proofs.Bigs.{range_ends, bigs_more, bigs_all}
 use Rattle.tables.proofs.Right.{Left, left-next, left_end, LeftBigs, bigs-next, bigs-end}
+use Rattle.tables.proofs.bigs_of.Goals.{After-loop-k, At-loop-at, At-loop-k, Else-overfull, Else-wrong_triples-2, Start}
 use Rattle.tables.proofs.bigs_of.Goals as goal
 
-strokes_long : (c : goal.Start) → length c.args.chart.strokes ≡ 512
+strokes_long : (c : Start) → length c.args.chart.strokes ≡ 512
 strokes_long c = search (rules, length_via)
 
-segments_long : (c : goal.Start) → length c.args.chart.segments ≡ 256
+segments_long : (c : Start) → length c.args.chart.segments ≡ 256
 segments_long c = search (rules, length_via)
 
-bigs_long : (c : goal.Start) → length c.args.chart.bigs ≡ 256
+bigs_long : (c : Start) → length c.args.chart.bigs ≡ 256
 bigs_long c = search (rules, length_via)
 
 -- the places of the code that the proof goes back to, and what is known there
-abbrev start : goal.At-loop-at → goal.Start
+abbrev start : At-loop-at → Start
 start c = c.before.before.before.before.before.before.before.before.before
 
-abbrev else1 : goal.Else-wrong_triples-2 → goal.Else-overfull
+abbrev else1 : Else-wrong_triples-2 → Else-overfull
 else1 c = c.before.before.before.before.before.before
 
-abbrev first_loop : goal.At-loop-k → goal.At-loop-at
+abbrev first_loop : At-loop-k → At-loop-at
 first_loop c = c.before.before
 
-fits : (c : goal.Else-overfull) → Counted c.args.chart
+fits : (c : Else-overfull) → Counted c.args.chart
 fits c = counts-fit _ (sym c.overfull.ensures ∙ c.if-overfull.false)
 
-long : (c : goal.At-loop-at) → (start c).args.chart.stroke_count ≤ length (start c).args.chart.strokes
+long : (c : At-loop-at) → (start c).args.chart.stroke_count ≤ length (start c).args.chart.strokes
 long c = omega (arith, c.loop-at.invariant.1, strokes_long (start c))
 
 pub returns-then-overfull : goal.returns-then-overfull
 returns-then-overfull c = record { value = bad-counts _ (sym c.overfull.ensures ∙ c.if-overfull.true); bigs = λ e. absurd (false≢true (sym e)); }
 
 pub wrong_triples-requires : goal.wrong_triples-requires
-wrong_triples-requires c = (fits c.before).segments-1
+wrong_triples-requires c = (fits c.before).segments
 
 pub returns-then-wrong_triples : goal.returns-then-wrong_triples
 returns-then-wrong_triples c = record { value = bad-segments _ (sym c.wrong_triples.ensures ∙ c.if-wrong_triples.true); bigs = λ e. absurd (false≢true (sym e)); }
 
 pub wrong_triples-requires-2 : goal.wrong_triples-requires-2
-wrong_triples-requires-2 c = (fits c.before.before.before.before).superiors-1
+wrong_triples-requires-2 c = (fits c.before.before.before.before).superiors
 
 pub returns-then-wrong_triples-2 : goal.returns-then-wrong_triples-2
 returns-then-wrong_triples-2 c = record { value = bad-superiors _ (sym c.wrong_triples-2.ensures ∙ c.if-wrong_triples-2.true); bigs = λ e. absurd (false≢true (sym e)); }
@@ -114,10 +115,10 @@ loop-k-preserved c =
     let range =
     at-range.range_from-range.ensures
     ∙ range-read chart _ w1.within-i.result w2.within-j.result w3.within-p.result w4.within-q.result
-    (segments_long begin) (strokes_long begin) n.segments-1 n.strokes
+    (segments_long begin) (strokes_long begin) n.segments n.strokes
     w1.within-i.ensures w2.within-j.ensures w3.within-p.ensures w4.within-q.ensures in
     let last =
-    stroke-read chart (segments_long begin) (strokes_long begin) n.segments-1 n.strokes (get_or chart.bigs k no_triple) (λ (t : Triple). t.last)
+    stroke-read chart (segments_long begin) (strokes_long begin) n.segments n.strokes (get_or chart.bigs k no_triple) (λ (t : Triple). t.last)
     w2.within-j.result w4.within-q.result w2.within-j.ensures w4.within-q.ensures in (
       omega arith,
       i.1,
@@ -130,7 +131,7 @@ loop-k-preserved c =
 
 -- where the second loop ends
 filled :
-    (c : goal.After-loop-k)
+    (c : After-loop-k)
     → Bigs (levels_of (start (first_loop c.before)).args.chart) (start (first_loop c.before)).args.chart.big_count c.loop-k.bars
     c.loop-k.prices
 filled c =

@@ -12,4 +12,4 @@ pub returns : goal.returns
 unfolding range_in
 returns c =
     let low = c.before in
-    rw (ne_eqb _ 0 low.if-bars-k-eq0.false, low.bar_of_lem.ensures, c.bar_of-2.ensures)
+    rw (ne_eqb _ 0 low.if-bars-k-eq0.false, low.bar_of.ensures, c.bar_of-2.ensures)

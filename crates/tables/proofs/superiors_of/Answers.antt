@@ -9,9 +9,10 @@ use borrow.Author.Rules.{rules}
 use Rattle.rules.specs.Records.{Levels}
 use Rattle.tables.specs.Tables.{Bigs, sup_of, sup_in}
 use Rattle.tables.proofs.Sups.{sups_more, sups_all}
+use Rattle.tables.proofs.superiors_of.Goals.{Start}
 use Rattle.tables.proofs.superiors_of.Goals as goal
 
-long : (c : goal.Start) → length c.args.superiors ≡ 256
+long : (c : Start) → length c.args.superiors ≡ 256
 long c = omega arith
 
 pub loop-k-init : goal.loop-k-init

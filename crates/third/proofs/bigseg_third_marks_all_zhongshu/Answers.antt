@@ -9,27 +9,28 @@ use Rattle.mark_scan.proofs.Scans.{tables_owners}
 use Rattle.mark_hits.proofs.Quotes.{quotes_fit}
 use Rattle.third.proofs.Call.{third_by}
 use Rattle.third.proofs.Rows.{bars_small}
+use Rattle.third.proofs.bigseg_third_marks_all_zhongshu.Goals.{After-quotes_refusal-own, After-scans_of, After-tables_of-begun, After-thirds_of-found, Else-begun-ne0, Start}
 use Rattle.third.proofs.bigseg_third_marks_all_zhongshu.Goals as goal
 
 -- the places of the code that the proof goes back to
-abbrev start : goal.After-quotes_refusal-own → goal.Start
+abbrev start : After-quotes_refusal-own → Start
 start c = c.before.before.before
 
-abbrev priced : goal.After-tables_of-begun → goal.After-quotes_refusal-own
+abbrev priced : After-tables_of-begun → After-quotes_refusal-own
 priced c = c.before.before.before.before.before.before
 
-abbrev begun : goal.Else-begun-ne0 → goal.After-tables_of-begun
+abbrev begun : Else-begun-ne0 → After-tables_of-begun
 begun c = c.before.before
 
-abbrev known : goal.After-scans_of → goal.Else-begun-ne0
+abbrev known : After-scans_of → Else-begun-ne0
 known c = c.before.before.before.before.before.before.before
 
-abbrev at_scans : goal.After-thirds_of-found → goal.After-scans_of
+abbrev at_scans : After-thirds_of-found → After-scans_of
 at_scans c = c.before.before.before.before.before.before.before.before
 
 -- the slices are not refused with 8 or 1, so they are short enough
 short :
-    (c : goal.Else-begun-ne0)
+    (c : Else-begun-ne0)
     → (length (start (priced (begun c))).args.highs.now ≤ 0x1_0000) × (length (start (priced (begun c))).args.lows.now ≤ 0x1_0000)
 short c =
     let own = own_none _ _ (sym (begun c).tables_of-begun.ensures.number_value ∙ c.if-begun-ne0.false) in

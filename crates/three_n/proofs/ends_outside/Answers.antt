@@ -10,9 +10,10 @@ use Rattle.chart.specs.declared.Stroke.{Stroke}
 use Rattle.rules.specs.Lists.{any}
 use Rattle.levels.proofs.Tests.{any_here, any-later, any_none}
 use Rattle.levels.proofs.Read.{no_stroke}
+use Rattle.three_n.proofs.ends_outside.Goals.{Start}
 use Rattle.three_n.proofs.ends_outside.Goals as goal
 
-long : (c : goal.Start) → c.args.n ≤ length c.args.strokes
+long : (c : Start) → c.args.n ≤ length c.args.strokes
 long c = let all : length c.args.strokes ≡ 512 = search rules in omega (arith, all, c.requires)
 
 pub loop-i-init : goal.loop-i-init

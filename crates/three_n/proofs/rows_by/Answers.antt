@@ -7,20 +7,21 @@ use Rattle.laws.specs.Lists.{end_bars}
 use Rattle.mark_rows.specs.Rows.{Room}
 use Rattle.mark_rows.proofs.Gathered.{room_512, room_bars}
 use Rattle.three_n.proofs.Parts.{bigs_by, thirds-room, zero-marks, marks-are}
+use Rattle.three_n.proofs.rows_by.Goals.{After-anchor_rows-all, After-side_of-side, After-superior_rows-count, Start}
 use Rattle.three_n.proofs.rows_by.Goals as goal
 
 -- the places of the code that the proof goes back to
-abbrev start : goal.After-superior_rows-count → goal.Start
+abbrev start : After-superior_rows-count → Start
 start c = c.before.before.before.before.before.before
 
-abbrev numbered : goal.After-side_of-side → goal.After-superior_rows-count
+abbrev numbered : After-side_of-side → After-superior_rows-count
 numbered c = c.before.before.before.before
 
-abbrev sided : goal.After-anchor_rows-all → goal.After-side_of-side
+abbrev sided : After-anchor_rows-all → After-side_of-side
 sided c = c.before.before.before.before
 
 -- the keys of the third marks leave room for all rows
-room : (c : goal.Start) → Room (end_bars c.requires.ready.0) c.args.keys.now c.args.zeros
+room : (c : Start) → Room (end_bars c.requires.ready.0) c.args.keys.now c.args.zeros
 room c =
     let ready = c.requires.ready.1 in
     thirds-room c.requires.ready.0 _ _ _ ready.thirds (omega (arith, ready.tables.bigs.count, c.requires.fits.0.bigs)) c.requires.fits.1 ready.inside

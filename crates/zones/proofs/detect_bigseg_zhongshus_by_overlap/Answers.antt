@@ -3,13 +3,14 @@ use mathlib.Core.Path.{refl, ap, ◌∙◌}
 use borrow.Author.Rules.{rules}
 use Rattle.rules.specs.Answer.{given}
 use Rattle.zones.proofs.Call.{zones_by}
+use Rattle.zones.proofs.detect_bigseg_zhongshus_by_overlap.Goals.{After-tables_of-begun, After-zp-2-1, Else-begun-ne0}
 use Rattle.zones.proofs.detect_bigseg_zhongshus_by_overlap.Goals as goal
 
 -- the call is not refused
-abbrev else1 : goal.After-zp-2-1 → goal.Else-begun-ne0
+abbrev else1 : After-zp-2-1 → Else-begun-ne0
 else1 c = c.before.before.before
 
-abbrev begun : goal.Else-begun-ne0 → goal.After-tables_of-begun
+abbrev begun : Else-begun-ne0 → After-tables_of-begun
 begun c = c.before.before
 
 pub tables_of-begun-requires : goal.tables_of-begun-requires

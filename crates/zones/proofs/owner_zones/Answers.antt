@@ -6,13 +6,14 @@ use mathlib.Core.Path.{refl, sym, ◌∙◌}
 use borrow.Author.Rules.{rules}
 use borrow.Author.Tests.{not-true, not-false}
 use Rattle.zones.proofs.Tables.{Scanning, starts-scan, past_same, past-missing, goes_on, puts_one, no_room, ends_on, ends-puts, ends-full}
+use Rattle.zones.proofs.owner_zones.Goals.{After-range_at, After-take_member-next, In-loop-at}
 use Rattle.zones.proofs.owner_zones.Goals as goal
 
 -- the places of the code that the proof goes back to
-abbrev range-of : goal.After-take_member-next → goal.After-range_at
+abbrev range-of : After-take_member-next → After-range_at
 range-of c = c.before.before.before.before
 
-abbrev in-loop : goal.After-range_at → goal.In-loop-at
+abbrev in-loop : After-range_at → In-loop-at
 in-loop c = c.before.before.before
 
 pub loop-at-init : goal.loop-at-init

@@ -12,39 +12,40 @@ use Rattle.tables.proofs.Bigs.{bigs-members}
 use Rattle.tables.proofs.Sups.{sups_owners}
 use Rattle.zones.specs.Filled.{Filled}
 use Rattle.zones.proofs.Call.{number-bad, number-own, number-many, number-few}
+use Rattle.zones.proofs.tables_of.Goals.{After-overlap-count, After-superiors_of, Else-bigs_of, Else-own-ne0, Start}
 use Rattle.zones.proofs.tables_of.Goals as goal
 
 -- the places of the code that the proof goes back to
-abbrev else1 : goal.Else-own-ne0 → goal.Else-bigs_of
+abbrev else1 : Else-own-ne0 → Else-bigs_of
 else1 c = c.before
 
-abbrev else2 : goal.After-superiors_of → goal.Else-own-ne0
+abbrev else2 : After-superiors_of → Else-own-ne0
 else2 c = c.before.before.before.before.before.before
 
-abbrev listed : goal.After-overlap-count → goal.After-superiors_of
+abbrev listed : After-overlap-count → After-superiors_of
 listed c = c.before.before.before.before.before.before
 
-abbrev start : goal.Else-bigs_of → goal.Start
+abbrev start : Else-bigs_of → Start
 start c = c.before.before.before.before
 
 -- the chart is not refused with 21
-good : (c : goal.Else-bigs_of) → bad_chart (start c).args.chart ≡ false
+good : (c : Else-bigs_of) → bad_chart (start c).args.chart ≡ false
 good c = sym c.bigs_of.ensures.value ∙ c.if-bigs_of.false
 
 -- the tables of its bigs, superiors and zones
 bigs :
-    (c : goal.Else-bigs_of)
+    (c : Else-bigs_of)
     → Bigs (levels_of (start c).args.chart) (start c).args.chart.big_count c.bigs_of.new.1.0 c.bigs_of.new.1.1.0
 bigs c = c.bigs_of.ensures.bigs c.if-bigs_of.false
 
 superiors :
-    (c : goal.After-superiors_of)
+    (c : After-superiors_of)
     → Sups (levels_of (start (else1 (else2 c))).args.chart) (start (else1 (else2 c))).args.chart.superior_count c.superiors_of.new.1.1.1.1.0
 unfolding levels_of
 superiors c = c.superiors_of.ensures _ _ (bigs (else1 (else2 c))) refl
 
 zones :
-    (c : goal.After-overlap-count)
+    (c : After-overlap-count)
     → Filled c.overlap-count.result c.overlap-count.new.1.1.1.1.1.0 c.overlap-count.new.1.1.1.1.1.1.0
     (overlap_zones (levels_of (start (else1 (else2 (listed c)))).args.chart))
 unfolding overlap_zones
@@ -63,13 +64,13 @@ pub superiors_of-requires : goal.superiors_of-requires
 superiors_of-requires c =
     let known = else1 c.before.before.before.before.before in
     let fits = counted _ (good known) in
-    (fits.superiors-1, fits.bigs, (start known).requires.2)
+    (fits.superiors, fits.bigs, (start known).requires.2)
 
 pub overlap-count-requires : goal.overlap-count-requires
 overlap-count-requires c =
     let known = else1 (else2 c.before.before.before.before.before) in
     let fits = counted _ (good known) in
-    (fits.superiors-1, fits.bigs, (start known).requires.1)
+    (fits.superiors, fits.bigs, (start known).requires.1)
 
 pub returns-then-count-gt256 : goal.returns-then-count-gt256
 returns-then-count-gt256 c =
@@ -83,7 +84,7 @@ returns c =
     let known = else1 (else2 (listed put)) in
     let fits = counted _ (good known) in
     let own = (zones put).few c.if-count-gt256.false in record { number_value = number-few _ _ (good known) (else2 (listed put)).if-own-ne0.false _ _ _ (zones put) c.if-count-gt256.false; tables = λ _. record {
-          fits = record { bigs = fits.bigs; superiors = fits.superiors-1; zones = c.if-count-gt256.false };
+          fits = record { bigs = fits.bigs; superiors = fits.superiors; zones = c.if-count-gt256.false };
           bigs = bigs known;
           superiors = superiors (listed put);
           zones = own;

@@ -11,22 +11,23 @@ use Rattle.laws.proofs.Levels.{stroke}
 use Rattle.live.specs.Did.{data_of}
 use Rattle.live.proofs.Outcomes.{passes, answer-is, did-not, accepts}
 use Rattle.live.proofs.Levelled.{adding-refused, adding-room, adding-does}
+use Rattle.live.proofs.Live.add_stroke.Goals.{Joined-number-eq0, Start, Then-number-eq0-2}
 use Rattle.live.proofs.Live.add_stroke.Goals as goal
 
-sized : (c : goal.Start) → Sized c.args.self.chart
+sized : (c : Start) → Sized c.args.self.chart
 sized c = search (rules, length_via, sized_via)
 
-abbrev start : goal.Joined-number-eq0 → goal.Start
+abbrev start : Joined-number-eq0 → Start
 start c = c.before.before.before
 
-number_is : (c : goal.Joined-number-eq0) → c.if-number-eq0.number ≡ live_refusal (data_of (start c).args.self) (add_stroke (start c).args.s)
+number_is : (c : Joined-number-eq0) → c.if-number-eq0.number ≡ live_refusal (data_of (start c).args.self) (add_stroke (start c).args.s)
 unfolding levels_of
 number_is c =
     answer-is _ _ _ _ c.first_number-number.ensures
     (λ w. (w.0.true, λ good. w.2 ∙ w.1.ensures ∙ sym (adding-refused _ (sized (start c)) (counted _ good) stroke _)))
     (λ w. (w.0.false, w.1)) c.if-number-eq0.branch
 
-zero : (c : goal.Then-number-eq0-2) → live_refusal (data_of (start c.before).args.self) (add_stroke (start c.before).args.s) ≡ 0
+zero : (c : Then-number-eq0-2) → live_refusal (data_of (start c.before).args.self) (add_stroke (start c.before).args.s) ≡ 0
 zero c = sym (number_is c.before) ∙ c.if-number-eq0-2.true
 
 pub stroke_refusal-number-requires : goal.stroke_refusal-number-requires

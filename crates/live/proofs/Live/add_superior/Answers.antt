@@ -10,21 +10,22 @@ use Rattle.laws.proofs.Levels.{above, superior}
 use Rattle.live.specs.Did.{data_of}
 use Rattle.live.proofs.Outcomes.{passes, answer-is, did-not, accepts}
 use Rattle.live.proofs.Levelled.{adding-refused, adding-room, adding-does}
+use Rattle.live.proofs.Live.add_superior.Goals.{Joined-number-eq0, Start, Then-number-eq0-2}
 use Rattle.live.proofs.Live.add_superior.Goals as goal
 
-sized : (c : goal.Start) → Sized c.args.self.chart
+sized : (c : Start) → Sized c.args.self.chart
 sized c = search (rules, length_via, sized_via)
 
-abbrev start : goal.Joined-number-eq0 → goal.Start
+abbrev start : Joined-number-eq0 → Start
 start c = c.before.before.before
 
-number_is : (c : goal.Joined-number-eq0) → c.if-number-eq0.number ≡ live_refusal (data_of (start c).args.self) (add_superior (start c).args.t)
+number_is : (c : Joined-number-eq0) → c.if-number-eq0.number ≡ live_refusal (data_of (start c).args.self) (add_superior (start c).args.t)
 number_is c =
     answer-is _ _ _ _ c.first_number-number.ensures
     (λ w. (w.0.true, λ good. w.3 ∙ w.2.ensures ∙ sym (adding-refused _ (sized (start c)) (counted _ good) (above superior) _)))
     (λ w. (w.0.false, w.1)) c.if-number-eq0.branch
 
-zero : (c : goal.Then-number-eq0-2) → live_refusal (data_of (start c.before).args.self) (add_superior (start c.before).args.t) ≡ 0
+zero : (c : Then-number-eq0-2) → live_refusal (data_of (start c.before).args.self) (add_superior (start c.before).args.t) ≡ 0
 zero c = sym (number_is c.before) ∙ c.if-number-eq0-2.true
 
 pub triple_refusal-number-requires : goal.triple_refusal-number-requires

@@ -12,16 +12,16 @@ known : (b : Live) (j k : Call) (n : ℕ) (d : Live) → j ≡ k → Did b k n d
 known b j k n d e h = subst (λ (x : Call). Did b x n d) (sym e) h
 
 pub returns-in-Stroke : goal.returns-in-Stroke
-returns-in-Stroke c = known _ _ _ _ _ (ap call_of c.in-Stroke.is) c.add_stroke_fact.ensures
+returns-in-Stroke c = known _ _ _ _ _ (ap call_of c.in-Stroke.is) c.add_stroke.ensures
 
 pub returns-in-Segment : goal.returns-in-Segment
-returns-in-Segment c = known _ _ _ _ _ (ap call_of c.in-Segment.is) c.add_segment_fact.ensures
+returns-in-Segment c = known _ _ _ _ _ (ap call_of c.in-Segment.is) c.add_segment.ensures
 
 pub returns-in-Big : goal.returns-in-Big
-returns-in-Big c = known _ _ _ _ _ (ap call_of c.in-Big.is) c.add_big_fact.ensures
+returns-in-Big c = known _ _ _ _ _ (ap call_of c.in-Big.is) c.add_big.ensures
 
 pub returns-in-Superior : goal.returns-in-Superior
-returns-in-Superior c = known _ _ _ _ _ (ap call_of c.in-Superior.is) c.add_superior_fact.ensures
+returns-in-Superior c = known _ _ _ _ _ (ap call_of c.in-Superior.is) c.add_superior.ensures
 
 pub returns-in-Lengthen : goal.returns-in-Lengthen
 returns-in-Lengthen c = known _ _ _ _ _ (ap call_of c.in-Lengthen.is) c.lengthen.ensures

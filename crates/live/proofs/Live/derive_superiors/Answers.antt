@@ -15,31 +15,32 @@ use Rattle.laws.proofs.Levels.{above, superior, as_long}
 use Rattle.live.specs.Did.{data_of}
 use Rattle.live.proofs.Outcomes.{answer-is, did-not, accepts}
 use Rattle.live.proofs.Derives.{Found, superiors-found, superiors-does}
+use Rattle.live.proofs.Live.derive_superiors.Goals.{After-classify_sup_segments-found, Joined-number-eq0, Start, Then-number-eq0-2}
 use Rattle.live.proofs.Live.derive_superiors.Goals as goal
 
-sized : (c : goal.Start) → Sized c.args.self.chart
+sized : (c : Start) → Sized c.args.self.chart
 sized c = search (rules, length_via, sized_via)
 
-abbrev start : goal.Joined-number-eq0 → goal.Start
+abbrev start : Joined-number-eq0 → Start
 start c = c.before.before.before
 
-number_is : (c : goal.Joined-number-eq0) → c.if-number-eq0.number ≡ live_refusal (data_of (start c).args.self) (derive_superiors (start c).args.byte)
+number_is : (c : Joined-number-eq0) → c.if-number-eq0.number ≡ live_refusal (data_of (start c).args.self) (derive_superiors (start c).args.byte)
 unfolding refusal levels_of
 number_is c =
     answer-is _ _ _ _ c.first_number-number.ensures
     (λ w. (w.0.true, λ good. w.2 ∙ w.1.ensures _ (as_long _ (sized (start c)) (counted _ good) (above superior))))
     (λ w. (w.0.false, w.1)) c.if-number-eq0.branch
 
-zero : (c : goal.Then-number-eq0-2) → live_refusal (data_of (start c.before).args.self) (derive_superiors (start c.before).args.byte) ≡ 0
+zero : (c : Then-number-eq0-2) → live_refusal (data_of (start c.before).args.self) (derive_superiors (start c.before).args.byte) ≡ 0
 zero c = sym (number_is c.before) ∙ c.if-number-eq0-2.true
 
 found :
-    (c : goal.After-classify_sup_segments-found)
+    (c : After-classify_sup_segments-found)
     → Found c.classify_sup_segments-found.result.count c.classify_sup_segments-found.result.rows
     (big_classes (eqb (start c.before.before).args.byte 1) (levels_of (start c.before.before).args.self.chart))
 found c = superiors-found _ _ _ _ _ (accepts _ _ (zero c.before)) c.classify_sup_segments-found.ensures
 
-few : (c : goal.After-classify_sup_segments-found) → c.classify_sup_segments-found.result.count ≤ 256
+few : (c : After-classify_sup_segments-found) → c.classify_sup_segments-found.result.count ≤ 256
 few c = let long : length c.classify_sup_segments-found.result.rows ≡ 256 = search (rules, length_via) in omega (arith, (found c).few)
 
 pub triples_of-triples-requires : goal.triples_of-triples-requires

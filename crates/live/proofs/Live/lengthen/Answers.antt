@@ -11,24 +11,25 @@ use Rattle.live.specs.Did.{data_of}
 use Rattle.live.proofs.Outcomes.{passes, answer-is, did-not, accepts}
 use Rattle.live.proofs.Levelled.{lengthen-refused}
 use Rattle.live.proofs.Ends.{some-superior, lengthen-does}
+use Rattle.live.proofs.Live.lengthen.Goals.{Joined-number-eq0, Start, Then-number-eq0-2}
 use Rattle.live.proofs.Live.lengthen.Goals as goal
 
-sized : (c : goal.Start) → Sized c.args.self.chart
+sized : (c : Start) → Sized c.args.self.chart
 sized c = search (rules, length_via, sized_via)
 
-abbrev start : goal.Joined-number-eq0 → goal.Start
+abbrev start : Joined-number-eq0 → Start
 start c = c.before.before.before
 
-number_is : (c : goal.Joined-number-eq0) → c.if-number-eq0.number ≡ live_refusal (data_of (start c).args.self) (lengthen (start c).args.last)
+number_is : (c : Joined-number-eq0) → c.if-number-eq0.number ≡ live_refusal (data_of (start c).args.self) (lengthen (start c).args.last)
 number_is c =
     answer-is _ _ _ _ c.first_number-number.ensures
     (λ w. (w.0.true, λ good. w.3 ∙ w.2.ensures ∙ sym (lengthen-refused _ (sized (start c)) (counted _ good) _)))
     (λ w. (w.0.false, w.1)) c.if-number-eq0.branch
 
-zero : (c : goal.Then-number-eq0-2) → live_refusal (data_of (start c.before).args.self) (lengthen (start c.before).args.last) ≡ 0
+zero : (c : Then-number-eq0-2) → live_refusal (data_of (start c.before).args.self) (lengthen (start c.before).args.last) ≡ 0
 zero c = sym (number_is c.before) ∙ c.if-number-eq0-2.true
 
-there : (c : goal.Then-number-eq0-2) → 1 ≤ (start c.before).args.self.chart.superior_count
+there : (c : Then-number-eq0-2) → 1 ≤ (start c.before).args.self.chart.superior_count
 there c = some-superior _ (sized (start c.before)) _ (accepts _ _ (zero c))
 
 pub lengthen_refusal-number-requires : goal.lengthen_refusal-number-requires

@@ -2,13 +2,14 @@
 use borrow.Author.Rules.{rules}
 use Rattle.laws.proofs.Arrays.{length_via, Sized, sized_via}
 use Rattle.live.proofs.Outcomes.{renews}
+use Rattle.live.proofs.Live.renewed.Goals.{Start}
 use Rattle.live.proofs.Live.renewed.Goals as goal
 
-sized : (c : goal.Start) → Sized c.args.chart
+sized : (c : Start) → Sized c.args.chart
 sized c = search (rules, length_via, sized_via)
 
 pub returns : goal.returns
 returns c =
     let found = c.before.before in
-    rw c.count_up_fact.ensures
+    rw c.count_up.ensures
     (renews found.args.self _ _ _ _ (sized found.before) found.detect_bigseg_zhongshus_by_overlap-found.ensures)

@@ -6,18 +6,19 @@ use Rattle.rules.specs.Live.{live_refusal}
 use Rattle.laws.proofs.Answers.{room}
 use Rattle.live.specs.Did.{data_of}
 use Rattle.live.proofs.Outcomes.{passes, answer-is, did-not, accepts}
+use Rattle.live.proofs.Live.withdraw.Goals.{Joined-number-eq0, Start, Then-number-eq0-2}
 use Rattle.live.proofs.Live.withdraw.Goals as goal
 
-abbrev start : goal.Joined-number-eq0 → goal.Start
+abbrev start : Joined-number-eq0 → Start
 start c = c.before.before.before
 
-number_is : (c : goal.Joined-number-eq0) → c.if-number-eq0.number ≡ live_refusal (data_of (start c).args.self) (withdraw (start c).args.level)
+number_is : (c : Joined-number-eq0) → c.if-number-eq0.number ≡ live_refusal (data_of (start c).args.self) (withdraw (start c).args.level)
 unfolding refusal
 number_is c =
     answer-is _ _ _ _ c.first_number-number.ensures (λ w. (w.0.true, λ good. w.2 ∙ w.1.ensures)) (λ w. (w.0.false, w.1))
     c.if-number-eq0.branch
 
-zero : (c : goal.Then-number-eq0-2) → live_refusal (data_of (start c.before).args.self) (withdraw (start c.before).args.level) ≡ 0
+zero : (c : Then-number-eq0-2) → live_refusal (data_of (start c.before).args.self) (withdraw (start c.before).args.level) ≡ 0
 zero c = sym (number_is c.before) ∙ c.if-number-eq0-2.true
 
 pub withdraw_refusal-number-requires : goal.withdraw_refusal-number-requires
