@@ -36,7 +36,7 @@ enum_told-1 c = search rules
 
 pub returns-in-Bad : goal.returns-in-Bad
 returns-in-Bad c =
-    let read = c.before.before in
+    let read = c in
     bad_here _ _ _ read.next_entry-n.result.next read.next_entry-n.result.bars (rw c.in-Bad.is at read.next_entry-n.ensures)
     ∙ read.loop-at.invariant.2
 

@@ -25,8 +25,8 @@ returns-then-b-eq85 c = mark-superior _ _ c.if-a-eq83.true c.if-b-eq85.true
 
 pub returns-else-b-eq85 : goal.returns-else-b-eq85
 returns-else-b-eq85 c =
-    let r = c.before in
-    let t = r.before.before in
+    let r = c in
+    let t = r in
     mark-no-s _ _ t.if-a-eq83.true t.if-b-eq84.false r.if-b-eq82-2.false r.if-b-eq71-2.false c.if-b-eq85.false
 
 pub returns-else-a-eq83 : goal.returns-else-a-eq83

@@ -63,7 +63,7 @@ loop-j-preserved c =
 
 pub returns : goal.returns
 returns c =
-    let head = c.before in
+    let head = c in
     record {
       same = second-over _ _ _ _ _ head.loop-j.invariant.1 (items-over _ _ _ _ _ c.loop-j-test.false);
       among = tt;

@@ -33,7 +33,7 @@ returns-then-n-last c = extend-none _ _ _ _ (items-length _ _ _ _) c.if-n-last.t
 
 pub loop-at-init : goal.loop-at-init
 loop-at-init c =
-    let at-if = c.before.before in (
+    let at-if = c in (
       omega (arith, c.at_most-end.ensures),
       extend-begins _ _ _ _ (items-length _ _ _ _) _ _ (item_in _ _ _ _ _ _ at-if.if-n-last.false c.item_at-x.ensures) c.at_most-end.ensures,
     )
@@ -41,7 +41,7 @@ loop-at-init c =
 -- the next item
 next : (c : After-item_at-y) → get_elem? (reach c.before.before) c.loop-at.at ≡ some (item_of c.item_at-y.result)
 next c =
-    let head = c.before.before in
+    let head = c in
     at_take _ _ _ c.loop-at-test.true
     ∙ item_in _ _ _ _ _ _ (omega (arith, head.loop-at.invariant.0, c.loop-at-test.true)) c.item_at-y.ensures
 

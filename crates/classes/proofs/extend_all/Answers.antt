@@ -25,9 +25,9 @@ loop-c-init c =
 
 pub loop-c-preserved : goal.loop-c-preserved
 loop-c-preserved c =
-    let in-loop = c.before.before in
-    let head = in-loop.before in
-    let start = head.before.before in
+    let in-loop = c in
+    let head = in-loop in
+    let start = head in
     let inv = head.loop-c.invariant in (
       omega (arith, inv.0),
       simp length-set inv.1,
@@ -38,8 +38,8 @@ loop-c-preserved c =
 
 pub returns : goal.returns
 returns c =
-    let head = c.before in
-    let start = head.before.before in
+    let head = c in
+    let start = head in
     record {
       few = start.requires.1;
       are = behind-all _ _ head.loop-c.c _ _ _ (omega (arith, c.loop-c-test.false)) head.loop-c.invariant.3;

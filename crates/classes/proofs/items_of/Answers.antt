@@ -62,7 +62,7 @@ read c =
 pub loop-k-init : goal.loop-k-init
 unfolding items_of
 loop-k-init c =
-    let start = c.before.before in
+    let start = c in
     let few : cond start.args.bigs start.args.chart.big_count start.args.chart.segment_count ≤ 256 =
     pick_cond (λ (n : ℕ). n ≤ 256) start.args.bigs _ _ (λ e. start.requires.2) (λ e. start.requires.1) in
     (omega (arith, c.chosen_count-n.ensures), omega arith, refl, refl, refl, refl, gathering-first _ _)

@@ -83,7 +83,7 @@ loop-i-preserved c =
 
 pub returns : goal.returns
 returns c =
-    let head = c.before in
+    let head = c in
     record {
       few = omega (arith, head.loop-i.invariant, head.requires);
       are = carries-all _ _ _ _ _ _ _ head.loop-i.invariant.3 (items-over _ _ _ _ _ c.loop-i-test.false);

@@ -8,4 +8,4 @@ use Rattle.fields.proofs.price_at.Goals as goal
 
 pub returns : goal.returns
 unfolding price number
-returns c = rw (part _ _) at (c.value_of_lem.ensures ∙ ap (of_bits binary64) c.number_of_lem.ensures)
+returns c = rw (part _ _) at (c.value_of.ensures ∙ ap (of_bits binary64) c.number_of.ensures)

@@ -6,5 +6,5 @@ use Rattle.fields.proofs.stroke_in.Goals as goal
 
 pub returns : goal.returns
 returns c =
-    let read = c.before.before in
+    let read = c in
     stroke-read _ _ _ read.triple_in-begun.ensures _ _ (sym c.price_at.ensures) (sym c.price_at-2.ensures)

@@ -8,5 +8,5 @@ use Rattle.fields.proofs.two_at.Goals as goal
 
 pub returns : goal.returns
 returns c =
-    let start = c.before.before.before.before in
+    let start = c in
     rw (add-one start.args.at) at c.two_of.ensures ∙ sym (two_at start.args.s.now start.args.at (omega arith))

@@ -14,7 +14,7 @@ long c = search (rules, length_via)
 
 pub returns-then-found-ne0 : goal.returns-then-found-ne0
 returns-then-found-ne0 c =
-    let at = c.before.before in
+    let at = c in
     refused-rows _ _ (omega arith) ∙ marks-refused _ _ _ _ _ at.classify_sup_segments-found.ensures _ c.if-found-ne0.true
 
 pub marks_of-requires : goal.marks_of-requires
@@ -25,5 +25,5 @@ marks_of-requires c =
 
 pub returns : goal.returns
 returns c =
-    let at = c.before.before in
+    let at = c in
     c.marks_of.ensures ∙ marks-given _ _ _ _ _ at.classify_sup_segments-found.ensures at.if-found-ne0.false _

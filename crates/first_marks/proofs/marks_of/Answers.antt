@@ -144,7 +144,7 @@ inserted-more-requires c =
 
 pub loop-i-preserved : goal.loop-i-preserved
 loop-i-preserved c =
-    let at-if = c.before.before in
+    let at-if = c in
     let fitted = compared at-if.before in
     let at = turn fitted in
     let inv = at.loop-i.invariant in
@@ -161,7 +161,7 @@ loop-i-preserved c =
 
 pub returns : goal.returns
 returns c =
-    let head = c.before in
+    let head = c in
     let inv = head.loop-i.invariant in
     given-rows head.loop-i.rows head.loop-i.count (omega (arith, inv, head.requires.0))
     ∙ ap given (marks-all _ _ _ head.loop-i.i _ _ _ (long head.before) inv.4 c.loop-i-test.false)

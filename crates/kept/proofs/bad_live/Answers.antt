@@ -23,7 +23,7 @@ returns-then-n-gt256 c = live-count _ (omega (arith, c.if-n-gt256.true))
 
 pub returns-then-found-ne0 : goal.returns-then-found-ne0
 returns-then-found-ne0 c =
-    let found = c.before.before in
+    let found = c in
     live-refused _ (few found.before) _ _ _ found.detect_bigseg_zhongshus_by_overlap-found.ensures (λ z. absurd (omega (arith, z, c.if-found-ne0.true)))
 
 pub broken_levels-broken-requires : goal.broken_levels-broken-requires

@@ -16,9 +16,9 @@ loop-k-init c = (search rules, refl, refl, λ l t. record { by_start = refl; by_
 
 pub loop-k-preserved : goal.loop-k-preserved
 loop-k-preserved c =
-    let read = c.before in
-    let turn = read.before in
-    let head = turn.before in
+    let read = c in
+    let turn = read in
+    let head = turn in
     let inv = head.loop-k.invariant in (
       search rules,
       search rules,
@@ -29,5 +29,5 @@ loop-k-preserved c =
 
 pub returns : goal.returns
 returns c =
-    let head = c.before in
+    let head = c in
     let inv = head.loop-k.invariant in record { wide = (inv.1, inv.2); bar_columns = λ l t. columns-all l _ _ _ t head.loop-k.k _ _ (inv.3 l t) c.loop-k-test.false inv.0; }

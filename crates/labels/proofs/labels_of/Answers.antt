@@ -27,11 +27,11 @@ lone-alone-requires c =
 
 pub loop-k-preserved : goal.loop-k-preserved
 loop-k-preserved c =
-    let labelled = c.before in
-    let counted = labelled.before in
-    let read = counted.before.before.before in
-    let turn = read.before in
-    let head = turn.before in
+    let labelled = c in
+    let counted = labelled in
+    let read = counted in
+    let turn = read in
+    let head = turn in
     let inv = head.loop-k.invariant in (
       search rules,
       search rules,
@@ -44,6 +44,6 @@ loop-k-preserved c =
 
 pub returns : goal.returns
 returns c l zs t z =
-    let head = c.before in
+    let head = c in
     let inv = head.loop-k.invariant in
     labels-end l zs _ _ _ z head.loop-k.k head.loop-k.last head.loop-k.rows _ (inv.3 l zs t z) c.loop-k-test.false inv.0 (search rules)

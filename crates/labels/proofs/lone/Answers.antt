@@ -13,8 +13,8 @@ overflow_add-n c = omega (arith, touch-most _ _ _ _ _ c.touches-n.ensures)
 
 pub loop-k-preserved : goal.loop-k-preserved
 loop-k-preserved c =
-    let at-loop = c.before.before.before.before in
-    let start = at-loop.before.before.before.before.before in
+    let at-loop = c in
+    let start = at-loop in
     let a = start.args in
     let i = at-loop.loop-k.invariant in (
       search rules,
@@ -25,8 +25,8 @@ loop-k-preserved c =
 
 pub returns : goal.returns
 returns c ranges columns =
-    let at-loop = c.before in
-    let start = at-loop.before.before.before.before.before in
+    let at-loop = c in
+    let start = at-loop in
     let a = start.args in
     let n = touching-end _ _ a.m at-loop.loop-k.k at-loop.loop-k.n a.starts.now a.ends.now _ start.requires.1 start.requires.2
     (search rules) at-loop.loop-k.invariant.2 in

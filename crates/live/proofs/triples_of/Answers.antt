@@ -13,8 +13,8 @@ loop-i-init c = (search rules, refl, refl)
 
 pub loop-i-preserved : goal.loop-i-preserved
 loop-i-preserved c =
-    let at-loop = c.before.before.before in
-    let start = at-loop.before in (
+    let at-loop = c in
+    let start = at-loop in (
       search rules,
       search rules,
       one_class_more at-loop.loop-i.i at-loop.loop-i.triples start.args.classes _ _ (search rules) (search rules) c.triple_of.ensures
@@ -23,6 +23,6 @@ loop-i-preserved c =
 
 pub returns : goal.returns
 returns c =
-    let at-loop = c.before in
+    let at-loop = c in
     let same : at-loop.args.n ≡ at-loop.loop-i.i = search rules in
     rw same at-loop.loop-i.invariant.2

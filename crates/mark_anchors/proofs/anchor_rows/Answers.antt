@@ -19,7 +19,7 @@ anchor_of c = c.before.before.before
 
 pub loop-i-init : goal.loop-i-init
 loop-i-init c =
-    let first = c.before.before.before.before.before.before.before in
+    let first = c in
     anchors-first _ _ _ first.args.side _ _ _ _ _ _ _ c.anchors_of-found.ensures.upper_bound c.anchors_of-found.ensures.anchors_of
 
 pub loop-i-preserved-in_default : goal.loop-i-preserved-in_default

@@ -53,5 +53,5 @@ loop-i-preserved c =
 
 pub returns : goal.returns
 returns c =
-    let head = c.before.before in
+    let head = c in
     let inv = head.loop-i.invariant in record { upper_bound = omega (arith, inv.0, inv.1); anchors_of = found_all head.args.side _ _ _ _ _ _ head.loop-i.from _ inv.6 inv.1 c.loop-i-test.false; }

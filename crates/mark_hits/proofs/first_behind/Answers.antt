@@ -18,8 +18,8 @@ loop-k-init c =
 
 pub loop-k-preserved-in_default : goal.loop-k-preserved-in_default
 loop-k-preserved-in_default c =
-    let read = c.before.before in
-    let turn = read.before in
+    let read = c in
+    let turn = read in
     let args = turn.args in
     let inv = turn.loop-k.invariant in (
       inv.0,
@@ -33,9 +33,9 @@ returns-then-is_behind c =
 
 pub loop-k-preserved : goal.loop-k-preserved
 loop-k-preserved c =
-    let behind = c.before in
-    let read = behind.before.before.before.before in
-    let turn = read.before in
+    let behind = c in
+    let read = behind in
+    let turn = read in
     let args = turn.args in
     let inv = turn.loop-k.invariant in (
       inv.0,

@@ -10,11 +10,11 @@ returns-in_default c = no-quote _ _ _ _ _ c.quote_at-quote.ensures c.in_default.
 -- CONVERT clauses ['lent_price', 'bar_value']
 pub returns-then-beyond : goal.returns-then-beyond
 returns-then-beyond c =
-    let told = c.before.before.before in
+    let told = c in
     quote-hit _ _ _ _ _ told.quote_at-quote.ensures _ told.in-At.is _ c.beyond.ensures c.if-beyond.true
 
 -- CONVERT clauses ['lent_price', 'bar_value']
 pub returns : goal.returns
 returns c =
-    let told = c.before.before.before in
+    let told = c in
     quote-missed _ _ _ _ _ told.quote_at-quote.ensures _ told.in-At.is _ c.beyond.ensures c.if-beyond.false

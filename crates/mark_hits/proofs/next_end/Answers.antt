@@ -74,4 +74,4 @@ loop-k-preserved c =
 
 pub returns : goal.returns
 returns c =
-    let head = c.before in record { later_end = tt; next_end = λ l t. ends-over _ _ _ _ _ head.loop-k.k l t _ (head.loop-k.invariant.2 l t) c.loop-k-test.false; }
+    let head = c in record { later_end = tt; next_end = λ l t. ends-over _ _ _ _ _ head.loop-k.k l t _ (head.loop-k.invariant.2 l t) c.loop-k-test.false; }

@@ -7,8 +7,8 @@ use Rattle.mark_hits.proofs.put_anchor.Goals as goal
 
 pub returns-in_default : goal.returns-in_default
 returns-in_default c =
-    let start = c.before.before in record { wide = (simp length-set start.requires.2.0, simp length-set start.requires.2.1); puts_anchor = puts_anchor _ _ _ start.args.end _ _ start.requires.1 start.requires.2 _ _ (ap end_price_of c.in_default.is); }
+    let start = c in record { wide = (simp length-set start.requires.2.0, simp length-set start.requires.2.1); puts_anchor = puts_anchor _ _ _ start.args.end _ _ start.requires.1 start.requires.2 _ _ (ap end_price_of c.in_default.is); }
 
 pub returns : goal.returns
 returns c =
-    let start = c.before.before.before in record { wide = (simp length-set start.requires.2.0, simp length-set start.requires.2.1); puts_anchor = puts_anchor _ _ _ start.args.end _ _ start.requires.1 start.requires.2 _ _ (ap end_price_of c.in-At.is); }
+    let start = c in record { wide = (simp length-set start.requires.2.0, simp length-set start.requires.2.1); puts_anchor = puts_anchor _ _ _ start.args.end _ _ start.requires.1 start.requires.2 _ _ (ap end_price_of c.in-At.is); }

@@ -10,6 +10,6 @@ returns-then-counts-eq0 c = record { bigs_value = (refl, omega arith); side_of =
 
 pub returns : goal.returns
 returns c =
-    let most = c.before.before in
-    let wide = most.before in record { bigs_value = (refl, omega (arith, most.at_most.ensures)); side_of = λ l long t. side-some wide.args.counts _ l long t wide.if-counts-eq0.false _ _ _
+    let most = c in
+    let wide = most in record { bigs_value = (refl, omega (arith, most.at_most.ensures)); side_of = λ l long t. side-some wide.args.counts _ l long t wide.if-counts-eq0.false _ _ _
           wide.wide.ensures.0 most.at_most.ensures c.is_way.ensures; }

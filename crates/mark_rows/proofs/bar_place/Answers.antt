@@ -16,8 +16,8 @@ returns-then-bar-bars c = record { upper_bound = omega arith; all = c.loop-i.inv
 
 pub loop-i-preserved : goal.loop-i-preserved
 loop-i-preserved c =
-    let in-loop = c.before.before in
-    let head = in-loop.before in
+    let in-loop = c in
+    let head = in-loop in
     (omega arith, below_next _ head.loop-i.i _ (omega (arith, in-loop.loop-i-test.true, head.requires.0)) head.loop-i.invariant.1 c.if-bar-bars.false)
 
 pub returns : goal.returns

@@ -15,7 +15,7 @@ long c = omega arith
 -- where the bar is not put aside, another one stands in its place
 other :
     (c : Joined-at-n)
-    → let found = c.before in
+    → let found = c in
     let args = found.args in
     found.bar_place-at.result < args.n → get_or args.bars.now found.bar_place-at.result 0 ≡ args.bar → ⊥
 other c h e = ⊎_elim (λ w. w.2.false e) (λ w. omega arith) c.if-at-n.branch
@@ -25,14 +25,14 @@ start_at-start-requires c = let start = c.before.before in (long start, start.re
 
 pub bar_place-at-requires : goal.bar_place-at-requires
 bar_place-at-requires c =
-    let begun = c.before in
+    let begun = c in
     (long begun.before.before.before, begun.start_at-start.ensures.upper_bound, begun.start_at-start.ensures.all)
 
 pub returns-then-bars-at : goal.returns-then-bars-at
 returns-then-bars-at c =
-    let near = c.before.before in
-    let found = near.before in
-    let start = found.before.before.before.before.before in record { bars_after = inserted-none _ _ _ _ start.requires.0 found.bar_place-at.ensures.upper_bound found.bar_place-at.ensures.all.0 near.if-at-n.true c.if-bars-at.true; bars_len_unchanged = refl; n_le_count = (omega arith, omega arith, omega arith); }
+    let near = c in
+    let found = near in
+    let start = found in record { bars_after = inserted-none _ _ _ _ start.requires.0 found.bar_place-at.ensures.upper_bound found.bar_place-at.ensures.all.0 near.if-at-n.true c.if-bars-at.true; bars_len_unchanged = refl; n_le_count = (omega arith, omega arith, omega arith); }
 
 pub returns : goal.returns
 returns c =

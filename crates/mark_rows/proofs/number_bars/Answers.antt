@@ -11,13 +11,13 @@ use Rattle.mark_rows.proofs.number_bars.Goals as goal
 
 few : (c : At-loop-i) → c.loop-i.count ≤ 512
 few c =
-    let start = c.before.before.before.before in
+    let start = c in
     let inv = c.loop-i.invariant in
     room_512 (inv.room start.requires.by_index.0 start.requires.by_index.1 start.requires.by_index.2) (omega (arith, inv.grown.long, start.requires.k_in_bounds))
 
 small : (c : In-loop-i) → get_or c.args.bars.now c.loop-i.i 0 < 0x1_0000
 small c =
-    let start = c.before.before.before.before.before in
+    let start = c in
     all_in start.requires.by_index.1.small (taken_at _ c.loop-i.i _ 0 start.requires.by_index.2 c.loop-i-test.true start.requires.k_in_bounds.0)
 
 pub loop-i-init : goal.loop-i-init
@@ -39,15 +39,15 @@ number_bar-numbered-requires c =
 
 pub loop-i-preserved : goal.loop-i-preserved
 loop-i-preserved c =
-    let step = c.before.before.before.before in
-    let in-loop = step.before.before.before.before in
-    let head = in-loop.before in
-    let start = head.before.before.before.before in
+    let step = c in
+    let in-loop = step in
+    let head = in-loop in
+    let start = head in
     numbering-next _ _ _ _ _ _ _ start.requires.k_in_bounds.0 start.requires.k_in_bounds.2 _ _ _ _ head.loop-i.i head.loop-i.invariant in-loop.loop-i-test.true _ _ _ _
     step.number_bar-numbered.ensures
 
 pub returns : goal.returns
 returns c =
-    let head = c.before in
-    let start = head.before.before.before.before in
+    let head = c in
+    let start = head in
     let inv = head.loop-i.invariant in record { numbers_bars = numbering-all _ _ _ _ _ _ _ start.requires.k_in_bounds.0 start.requires.k_in_bounds.2 _ _ _ _ head.loop-i.i inv c.loop-i-test.false; keeps_room = inv.room; grown = inv.grown; }

@@ -6,7 +6,7 @@ use Rattle.mark_rows.proofs.place_near.Goals as goal
 
 pub returns-then-keys-near : goal.returns-then-keys-near
 returns-then-keys-near c =
-    let near = c.before.before in
+    let near = c in
     let pre = near.requires in
     guessed_place _ _ _ _ pre.0 pre.1 near.if-near-n.true (omega (arith, c.if-keys-near.true))
 

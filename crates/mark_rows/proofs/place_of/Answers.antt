@@ -15,17 +15,17 @@ loop-i-init c = (omega arith, omega arith)
 
 pub returns-then-keys-i : goal.returns-then-keys-i
 returns-then-keys-i c =
-    let in-loop = c.before.before in
-    let head = in-loop.before in record { upper_bound = omega arith; value = place_here _ _ head.loop-i.i _ _ head.requires head.loop-i.invariant.1 _ in-loop.loop-i-test.true (eq-eqb _ _ c.if-keys-i.true); }
+    let in-loop = c in
+    let head = in-loop in record { upper_bound = omega arith; value = place_here _ _ head.loop-i.i _ _ head.requires head.loop-i.invariant.1 _ in-loop.loop-i-test.true (eq-eqb _ _ c.if-keys-i.true); }
 
 pub loop-i-preserved : goal.loop-i-preserved
 loop-i-preserved c =
-    let in-loop = c.before.before in
-    let head = in-loop.before in (
+    let in-loop = c in
+    let head = in-loop in (
       omega arith,
       place-pass _ _ head.loop-i.i _ _ head.requires head.loop-i.invariant.1 _ in-loop.loop-i-test.true (ne_eqb _ _ c.if-keys-i.false),
     )
 
 pub returns : goal.returns
 returns c =
-    let head = c.before in record { upper_bound = omega arith; value = place_none _ _ head.loop-i.i _ _ head.requires head.loop-i.invariant.1 c.loop-i-test.false head.loop-i.invariant.0; }
+    let head = c in record { upper_bound = omega arith; value = place_none _ _ head.loop-i.i _ _ head.requires head.loop-i.invariant.1 c.loop-i-test.false head.loop-i.invariant.0; }

@@ -10,7 +10,7 @@ place_near-place-requires c =
 
 pub put_row-count-requires : goal.put_row-count-requires
 put_row-count-requires c =
-    let found = c.before.before in
+    let found = c in
     let pre = found.requires in record { n_bound = (pre.0, pre.1, pre.2); i_value = found.place_near-place.ensures; }
 
 -- CONVERT clauses ['pushes', 'keeps_room', 'grown']

@@ -15,16 +15,16 @@ loop-i-init c = (omega arith, refl, refl)
 
 pub row_of-requires : goal.row_of-requires
 row_of-requires c =
-    let in-loop = c.before.before in
-    let head = in-loop.before in
+    let in-loop = c in
+    let head = in-loop in
     let pre = head.requires in
     let inside = taken_at _ head.loop-i.i _ 0 pre.1 in-loop.loop-i-test.true pre.0.1 in
     (pre.0.3, inside.0, inside.1)
 
 pub loop-i-preserved : goal.loop-i-preserved
 loop-i-preserved c =
-    let in-loop = c.before.before.before in
-    let head = in-loop.before in
+    let in-loop = c in
+    let head = in-loop in
     let pre = head.requires in
     let inv = head.loop-i.invariant in
     let more = in-loop.loop-i-test.true in (
@@ -36,7 +36,7 @@ loop-i-preserved c =
 
 pub returns : goal.returns
 returns c =
-    let head = c.before in
+    let head = c in
     let pre = head.requires in
     let inv = head.loop-i.invariant in
     rows-given _ _ _ _ head.loop-i.i inv.2 _ inv.0 c.loop-i-test.false (omega (arith, pre.0, inv.1))

@@ -18,32 +18,32 @@ loop-k-init c = (omega arith, c.requires.1, λ l stop t lim. refl)
 
 pub returns-in_default : goal.returns-in_default
 returns-in_default c =
-    let read = c.before.before in
-    let turn = read.before in
-    let head = turn.before in
+    let read = c in
+    let turn = read in
+    let head = turn in
     let inv = head.loop-k.invariant in
     let missing = sym read.range_at.ensures ∙ c.in_default.is in record { later = tt; next_pair = λ l stop t lim. pairs-missing _ _ _ _ _ head.loop-k.k l stop t lim _ (inv.2 l stop t lim) turn.loop-k-test.true missing; }
 
 pub returns-then-reached : goal.returns-then-reached
 returns-then-reached c =
     let tested = c in
-    let near = tested.before in
-    let span = near.before.before in
-    let read = span.before.before in
-    let turn = read.before in
-    let head = turn.before in
+    let near = tested in
+    let span = near in
+    let read = span in
+    let turn = read in
+    let head = turn in
     let inv = head.loop-k.invariant in
     let found = sym read.range_at.ensures ∙ span.in-Found.is in record { later = tt; next_pair = λ l stop t lim. pairs-over _ _ _ _ _ head.loop-k.k l stop t lim _ (inv.2 l stop t lim) turn.loop-k-test.true _ found near.reached.ensures.1
           (leb-true _ _ (sym near.reached.ensures.0 ∙ tested.if-reached.true)); }
 
 pub returns-then-way_at-d : goal.returns-then-way_at-d
 returns-then-way_at-d c =
-    let tested = c.before.before.before in
-    let near = tested.before in
-    let span = near.before.before in
-    let read = span.before.before in
-    let turn = read.before in
-    let head = turn.before in
+    let tested = c in
+    let near = tested in
+    let span = near in
+    let read = span in
+    let turn = read in
+    let head = turn in
     let inv = head.loop-k.invariant in
     let found = sym read.range_at.ensures ∙ span.in-Found.is in record { later = (omega (arith, inv.0), omega (arith, turn.loop-k-test.true), near.reached.ensures.1); next_pair = λ l stop t lim. pairs-at _ _ _ _ _ head.loop-k.k l stop t lim _ (inv.2 l stop t lim) turn.loop-k-test.true _ found near.reached.ensures.1
           (leb-false _ _ (sym near.reached.ensures.0 ∙ tested.if-reached.false))
@@ -51,12 +51,12 @@ returns-then-way_at-d c =
 
 pub loop-k-preserved : goal.loop-k-preserved
 loop-k-preserved c =
-    let tested = c.before.before in
-    let near = tested.before in
-    let span = near.before.before in
-    let read = span.before.before in
-    let turn = read.before in
-    let head = turn.before in
+    let tested = c in
+    let near = tested in
+    let span = near in
+    let read = span in
+    let turn = read in
+    let head = turn in
     let inv = head.loop-k.invariant in
     let found = sym read.range_at.ensures ∙ span.in-Found.is in (
       omega (arith, inv.0),
@@ -68,4 +68,4 @@ loop-k-preserved c =
 
 pub returns : goal.returns
 returns c =
-    let head = c.before in record { later = tt; next_pair = λ l stop t lim. pairs-none _ _ _ _ _ head.loop-k.k l stop t lim _ (head.loop-k.invariant.2 l stop t lim) c.loop-k-test.false; }
+    let head = c in record { later = tt; next_pair = λ l stop t lim. pairs-none _ _ _ _ _ head.loop-k.k l stop t lim _ (head.loop-k.invariant.2 l stop t lim) c.loop-k-test.false; }

@@ -10,9 +10,9 @@ loop-i-init c = (omega arith, zones-first _ _ _ _)
 
 pub loop-i-preserved : goal.loop-i-preserved
 loop-i-preserved c =
-    let at_call = c.before in
-    let in-loop = at_call.before.before.before in
-    let head = in-loop.before in
+    let at_call = c in
+    let in-loop = at_call in
+    let head = in-loop in
     let got = at_call.bars_behind-more.ensures in (
       omega arith,
       rw c.fewer-least.ensures
@@ -21,10 +21,10 @@ loop-i-preserved c =
 
 pub returns-then-least-e : goal.returns-then-least-e
 returns-then-least-e c =
-    let head = c.before.before in
+    let head = c in
     zones-least _ _ _ _ head.loop-i.least head.loop-i.i c.loop-i-test.false head.loop-i.invariant.1
 
 pub returns : goal.returns
 returns c =
-    let head = c.before.before in
+    let head = c in
     zones-none _ _ _ _ head.loop-i.least head.loop-i.i c.loop-i-test.false c.if-least-e.false head.loop-i.invariant.1

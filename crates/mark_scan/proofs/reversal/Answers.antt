@@ -18,17 +18,17 @@ overflow_cast-result c = record { fits = omega (arith, c.turns.ensures.1) }
 
 pub returns-then-turns : goal.returns-then-turns
 returns-then-turns c =
-    let test = c.before in
-    let at_call = test.before in
-    let in-loop = at_call.before.before.before.before in
-    let head = in-loop.before in
+    let test = c in
+    let at_call = test in
+    let in-loop = at_call in
+    let head = in-loop in
     λ l t. reversal-here _ _ _ _ head.loop-i.i _ l t (head.loop-i.invariant l t) in-loop.loop-i-test.true _ at_call.turns.ensures.0 test.if-turns.true
 
 pub loop-i-preserved : goal.loop-i-preserved
 loop-i-preserved c =
-    let at_call = c.before in
-    let in-loop = at_call.before.before.before.before in
-    let head = in-loop.before in
+    let at_call = c in
+    let in-loop = at_call in
+    let head = in-loop in
     λ l t. reversal-pass _ _ _ _ head.loop-i.i _ l t (head.loop-i.invariant l t) in-loop.loop-i-test.true _ at_call.turns.ensures.0 c.if-turns.false
 
 pub returns : goal.returns

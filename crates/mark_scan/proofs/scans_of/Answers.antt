@@ -13,9 +13,9 @@ loop-i-init c = (omega arith, c.requires.2, λ j h. absurd (omega arith))
 
 pub loop-i-preserved : goal.loop-i-preserved
 loop-i-preserved c =
-    let test = c.before.before in
-    let head = test.before.before in
-    let start = head.before.before in
+    let test = c in
+    let head = test in
+    let start = head in
     let inv = head.loop-i.invariant in (
       omega (arith, test.loop-i-test.true),
       simp length-set inv.1,
@@ -24,5 +24,5 @@ loop-i-preserved c =
 
 pub returns : goal.returns
 returns c =
-    let head = c.before.before in
+    let head = c in
     let inv = head.loop-i.invariant in record { scans_len = inv.1; scanned = scans-all _ _ _ _ _ head.loop-i.scans head.loop-i.i inv.2 c.loop-i-test.false; }

@@ -20,9 +20,9 @@ returns-then-from-first c = inl refl
 
 pub returns-else-from-first : goal.returns-else-from-first
 returns-else-from-first c =
-    let ends = c.before.before.before in
-    let owners = ends.before.before.before in
-    let first = owners.before.before.before in
+    let ends = c in
+    let owners = ends in
+    let first = owners in
     inr (record {
       not_first = omega (arith, first.if-at-eq0.false);
       same = owners.if-zb-i.false;

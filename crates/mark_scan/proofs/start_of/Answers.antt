@@ -50,6 +50,6 @@ loop-k-preserved c =
 
 pub returns : goal.returns
 returns c =
-    let after = c.before in
-    let head = after.before in
+    let after = c in
+    let head = after in
     let inv = head.loop-k.invariant in record { upper_bound = omega (arith, c.at_most.ensures); starts_at = λ l t. start_none _ _ _ _ _ head.loop-k.k l t _ (inv.3 l t) _ _ head.at_most-end.ensures after.loop-k-test.false c.at_most.ensures; }

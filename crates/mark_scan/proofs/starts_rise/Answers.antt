@@ -17,7 +17,7 @@ loop-i-init c = (omega arith, λ good j k h w. absurd (omega arith))
 
 pub loop-i-preserved : goal.loop-i-preserved
 loop-i-preserved c =
-    let head = c.before.before in
+    let head = c in
     let rise = head.loop-i.rise in
     let last = head.loop-i.last in
     let i = head.loop-i.i in

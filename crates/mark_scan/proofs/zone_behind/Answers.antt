@@ -14,18 +14,18 @@ overflow_cast-result c = record { fits = omega (arith, c.is_next.ensures.1) }
 
 pub returns-then-is_next : goal.returns-then-is_next
 returns-then-is_next c =
-    let test = c.before in
-    let at_call = test.before in
-    let in-loop = at_call.before.before.before in
-    let head = in-loop.before in
+    let test = c in
+    let at_call = test in
+    let in-loop = at_call in
+    let head = in-loop in
     behind_here _ _ _ _ head.args.from head.loop-i.i head.loop-i.invariant in-loop.loop-i-test.true _
     at_call.is_next.ensures.0 head.requires.1 test.if-is_next.true
 
 pub loop-i-preserved : goal.loop-i-preserved
 loop-i-preserved c =
-    let at_call = c.before in
-    let in-loop = at_call.before.before.before in
-    let head = in-loop.before in
+    let at_call = c in
+    let in-loop = at_call in
+    let head = in-loop in
     behind-pass _ _ _ _ head.args.from head.loop-i.i head.loop-i.invariant in-loop.loop-i-test.true _ at_call.is_next.ensures.0 c.if-is_next.false
 
 pub returns : goal.returns

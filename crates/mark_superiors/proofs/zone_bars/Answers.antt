@@ -22,7 +22,7 @@ few c =
 
 pub loop-at-init : goal.loop-at-init
 loop-at-init c =
-    let start = c.before.before in
+    let start = c in
     put_first _ _ _ _ _ _ start.requires.m_bound.1 start.requires.m_bound.2
 
 pub returns-in_default : goal.returns-in_default
@@ -48,8 +48,8 @@ insert_bar-put-requires c =
 
 pub loop-at-smaller : goal.loop-at-smaller
 loop-at-smaller c =
-    let told = c.before.before.before.before.before in
-    let found = told.before.before in
+    let told = c in
+    let found = told in
     let later = pair_later _ _ found.next_pair-pair.result _ _ found.next_pair-pair.ensures.later told.in-At.is in
     omega (arith, later.0, later.1)
 

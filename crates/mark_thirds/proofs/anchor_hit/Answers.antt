@@ -45,9 +45,9 @@ returns-then-is_hit c =
 
 pub loop-k-smaller : goal.loop-k-smaller
 loop-k-smaller c =
-    let told = c.before.before.before.before in
-    let found = told.before.before in
-    let head = found.before.before.before.before in
+    let told = c in
+    let found = told in
+    let head = found in
     let later = end_later head.loop-k.k _ found.next_end-end.result _ _ _ found.next_end-end.ensures.later_end told.in-At.is in
     omega (arith, later.0, later.1)
 

@@ -32,7 +32,7 @@ side head = (start head).args.side
 
 pub loop-i-init : goal.loop-i-init
 loop-i-init c =
-    let begun = c.before.before.before.before.before.before in
+    let begun = c in
     (omega arith, omega arith, omega arith, refl, begun.requires.highs_len_bound.2.1, λ l f t w. w)
 
 pub loop-i-preserved-in_default : goal.loop-i-preserved-in_default

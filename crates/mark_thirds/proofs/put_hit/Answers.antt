@@ -17,7 +17,7 @@ start c = c.before.before.before
 
 pub returns-in_default : goal.returns-in_default
 returns-in_default c =
-    let begun = c.before.before.before in record { one_more = ((omega arith, omega arith), (refl, begun.requires.1.1)); puts_hit = λ zoned l w. hit-none zoned _ _ _ l _ _ _ begun.args.hit c.in_default.is w; }
+    let begun = c in record { one_more = ((omega arith, omega arith), (refl, begun.requires.1.1)); puts_hit = λ zoned l w. hit-none zoned _ _ _ l _ _ _ begun.args.hit c.in_default.is w; }
 
 -- CONVERT lost goal overflow-cast-key-of
 -- cast-key-of : tie.Need-overflow-cast-key-of

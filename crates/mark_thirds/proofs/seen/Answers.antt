@@ -15,8 +15,8 @@ loop-i-init c = (omega arith, refl)
 
 pub loop-i-preserved : goal.loop-i-preserved
 loop-i-preserved c =
-    let in-loop = c.before in
-    let head = in-loop.before in
+    let in-loop = c in
+    let head = in-loop in
     let args = head.args in (
       omega arith,
       met-more (λ (k : ℕ). eqb k args.key) _ head.loop-i.i args.keys.now head.loop-i.met _ head.requires
@@ -25,7 +25,7 @@ loop-i-preserved c =
 
 pub returns : goal.returns
 returns c =
-    let head = c.before in
+    let head = c in
     let args = head.args in
     met-none (λ (k : ℕ). eqb k args.key) _ head.loop-i.i args.keys.now head.loop-i.met _ head.requires
     head.loop-i.invariant.1 c.loop-i-test.false

@@ -88,9 +88,9 @@ loop-k-init c =
 
 pub put_big-requires : goal.put_big-requires
 put_big-requires c =
-    let at-range = c.before.before.before in
-    let w4 = at-range.before.before.before in
-    let in-loop = w4.before.before.before.before.before.before.before in
+    let at-range = c in
+    let w4 = at-range in
+    let in-loop = w4 in
     let inv = in-loop.loop-k.invariant in
     (omega (arith, in-loop.loop-k-test.true, inv.1), inv.3, rw at-range.range_from-range.ensures (range_ends _ _ _ _ _ _ _))
 

@@ -5,7 +5,7 @@ use Rattle.tables.proofs.put_big.Goals as goal
 
 pub returns-in_default : goal.returns-in_default
 returns-in_default c =
-    let start = c.before.before in
+    let start = c in
     puts-missing _ _ _ _ _ _ _ start.requires.0 start.requires.1 _ _ _ _ c.in_default.is
 
 pub returns : goal.returns

@@ -11,5 +11,5 @@ returns-then-bars-k-eq0 c = rw (eq-eqb _ 0 c.if-bars-k-eq0.true)
 pub returns : goal.returns
 unfolding range_in
 returns c =
-    let low = c.before in
+    let low = c in
     rw (ne_eqb _ 0 low.if-bars-k-eq0.false, low.bar_of.ensures, c.bar_of-2.ensures)

@@ -11,5 +11,5 @@ returns-then-m-i c = λ l prices t. row-no-big l _ _ _ _ t c.if-s.false _ c.if-m
 
 pub returns : goal.returns
 returns c =
-    let inside = c.before.before in
+    let inside = c in
     λ l prices t. row-there l _ _ _ _ t inside.if-s.false inside.if-m-i.false

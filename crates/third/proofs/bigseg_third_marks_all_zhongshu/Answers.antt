@@ -71,5 +71,5 @@ returns c =
     let made = c.before.before.before.before in
     let here = known (at_scans made) in
     let t = (begun here).tables_of-begun.ensures.tables.0 here.if-begun-ne0.false in
-    c.rows_of_lem.ensures _ (made.thirds_of-found.ensures.gathers_thirds _ _ t ((at_scans made).scans_of.ensures.scanned _ _ t))
+    c.rows_of.ensures _ (made.thirds_of-found.ensures.gathers_thirds _ _ t ((at_scans made).scans_of.ensures.scanned _ _ t))
     ∙ (third_by _ _ _ (priced (begun here)).quotes_refusal-own.ensures _ (begun here).tables_of-begun.ensures.number_value).1 here.if-begun-ne0.false

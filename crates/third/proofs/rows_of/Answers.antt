@@ -15,14 +15,14 @@ loop-i-init c = (omega arith, refl, λ l w. refl)
 
 pub row_of-requires : goal.row_of-requires
 row_of-requires c =
-    let turn = c.before.before.before in
-    let head = turn.before in
+    let turn = c in
+    let head = turn in
     head.requires.2 head.loop-i.i turn.loop-i-test.true
 
 pub loop-i-preserved : goal.loop-i-preserved
 loop-i-preserved c =
-    let turn = c.before.before.before.before in
-    let head = turn.before in
+    let turn = c in
+    let head = turn in
     let more = turn.loop-i-test.true in
     let inv = head.loop-i.invariant in (
       omega arith,
@@ -33,6 +33,6 @@ loop-i-preserved c =
 
 pub returns : goal.returns
 returns c =
-    let head = c.before in
+    let head = c in
     let inv = head.loop-i.invariant in
     λ l w. given-all _ _ _ _ l w head.loop-i.i head.loop-i.rows (inv.2 l w) c.loop-i-test.false inv.0 (omega (arith, inv, head.requires))

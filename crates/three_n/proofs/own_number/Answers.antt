@@ -21,8 +21,8 @@ ends_outside-requires c = omega (arith, c.at_most.ensures)
 pub returns-then-ends_outside : goal.returns-then-ends_outside
 unfolding refuse
 returns-then-ends_outside c =
-    let ends = c.before in
-    let priced = ends.before.before.before in
+    let ends = c in
+    let priced = ends in
     let args = priced.args in
     let all = ap (λ (k : ℕ). take k args.strokes) ends.at_most.ensures ∙ clipped args.n 512 args.strokes (search rules) in
     own-ends _ _ priced.quotes_refusal-number.ensures _ _ ends.if-number-ne0.false
@@ -31,8 +31,8 @@ returns-then-ends_outside c =
 pub returns : goal.returns
 unfolding refuse
 returns c =
-    let ends = c.before in
-    let priced = ends.before.before.before in
+    let ends = c in
+    let priced = ends in
     let args = priced.args in
     let all = ap (λ (k : ℕ). take k args.strokes) ends.at_most.ensures ∙ clipped args.n 512 args.strokes (search rules) in
     own-ends _ _ priced.quotes_refusal-number.ensures _ _ ends.if-number-ne0.false

@@ -66,7 +66,7 @@ returns c l ready =
     let tables = ready.tables in
     let bigs = bigs_by _ _ _ _ _ at_Side.side_of-side.ensures.bigs_value.0 tables.bigs in
     let limit = at-anchors.anchor_limit-limit.ensures l tables.bigs tables.superiors in
-    c.rows_of_lem.ensures
+    c.rows_of.ensures
     ∙ ap given
     (marks-are l _ s.args.zeros s.args.keys.now ready.thirds _ (at_Side.side_of-side.ensures.side_of l tables.bigs.count tables.superiors) _ _ _
     (zero-marks l _ _ _ ready.thirds s.requires.fits.3 ready.few) (at_rows.superior_rows-count.ensures.numbers_superiors l _ _ tables ready.thirds)

@@ -27,4 +27,4 @@ pub returns : goal.returns
 returns c =
     let known = else1 c.before in
     let made = (begun known).tables_of-begun.ensures in
-    c.rows_of_lem.ensures ∙ ap given (made.1.0 known.if-begun-ne0.false).zones.are ∙ (zones_by _ _ made.0).1 known.if-begun-ne0.false
+    c.rows_of.ensures ∙ ap given (made.1.0 known.if-begun-ne0.false).zones.are ∙ (zones_by _ _ made.0).1 known.if-begun-ne0.false

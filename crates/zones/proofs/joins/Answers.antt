@@ -8,8 +8,8 @@ returns-then-z-eq1 c = joins-second _ _ _ _ c.if-z-eq1.true c.higher.ensures c.l
 
 pub returns-then-s-z : goal.returns-then-s-z
 returns-then-s-z c =
-    let later = c.before.before in
-    let start = later.before.before.before in
+    let later = c in
+    let start = later in
     joins-later start.args.z start.args.s start.if-z-eq1.false later.if-s-z.true
 
 pub returns-else-s-z : goal.returns-else-s-z

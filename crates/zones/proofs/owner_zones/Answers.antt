@@ -21,7 +21,7 @@ loop-at-init c = (c.requires.1, starts-scan _ _ _ _ _ _ _ _ _ _ refl c.requires.
 
 pub loop-at-preserved-then-way_at-direction : goal.loop-at-preserved-then-way_at-direction
 loop-at-preserved-then-way_at-direction c =
-    let turn = c.before.before in
+    let turn = c in
     let inv = turn.loop-at.invariant in
     (inv.0, past_same _ _ _ _ _ _ _ _ _ _ _ _ _ _ _ inv.1 turn.loop-at-test.true (sym c.way_at.ensures ∙ c.if-way_at-direction.true))
 
@@ -60,13 +60,13 @@ returns-then-count-eq256 c =
 
 pub put_zone-requires : goal.put_zone-requires
 put_zone-requires c =
-    let chosen = c.before.before in
+    let chosen = c in
     let inv = (in-loop (range-of chosen.before.before.before.before)).loop-at.invariant.1 in
     (omega (arith, inv.few, chosen.if-count-eq256.false), inv.wide)
 
 pub overflow_add-count : goal.overflow_add-count
 overflow_add-count c =
-    let chosen = c.before.before.before in
+    let chosen = c in
     let inv = (in-loop (range-of chosen.before.before.before.before)).loop-at.invariant.1 in
     omega (arith, inv.few)
 
@@ -89,18 +89,18 @@ returns-then-not-begun c =
 
 pub returns-then-count-eq256-2 : goal.returns-then-count-eq256-2
 returns-then-count-eq256-2 c =
-    let ended = c.before.before in
+    let ended = c in
     let inv = ended.loop-at.invariant.1 in record { upper_bound = (omega arith, inv.wide); owner_zones = ends-full _ _ _ _ _ _ _ _ _ _ _ _ _ _ _ inv ended.loop-at-test.false (not-false _ c.if-not-begun.false-raw) c.if-count-eq256-2.true; }
 
 pub put_zone-requires-2 : goal.put_zone-requires-2
 put_zone-requires-2 c =
-    let chosen = c.before.before in
+    let chosen = c in
     let inv = chosen.loop-at.invariant.1 in
     (omega (arith, inv.few, chosen.if-count-eq256-2.false), inv.wide)
 
 pub returns : goal.returns
 returns c =
-    let chosen = c.before.before.before in
-    let ended = chosen.before.before in
+    let chosen = c in
+    let ended = chosen in
     let inv = ended.loop-at.invariant.1 in record { upper_bound = (omega (arith, inv.few), c.put_zone-2.ensures.wide); owner_zones = ends-puts _ _ _ _ _ _ _ _ _ _ _ _ _ _ _ inv ended.loop-at-test.false _ _ (not-false _ chosen.if-not-begun.false-raw)
           chosen.if-count-eq256-2.false c.put_zone-2.ensures; }

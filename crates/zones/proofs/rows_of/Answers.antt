@@ -13,8 +13,8 @@ loop-i-init c = (omega arith, refl, refl)
 
 pub loop-i-preserved : goal.loop-i-preserved
 loop-i-preserved c =
-    let turn = c.before in
-    let head = turn.before in
+    let turn = c in
+    let head = turn in
     let pre = head.requires in
     let inv = head.loop-i.invariant in (
       omega arith,
@@ -24,7 +24,7 @@ loop-i-preserved c =
 
 pub returns : goal.returns
 returns c =
-    let head = c.before in
+    let head = c in
     let pre = head.requires in
     let inv = head.loop-i.invariant in
     rows_all _ head.loop-i.i _ _ pre.1 pre.0 head.loop-i.rows inv.1 inv.2 c.loop-i-test.false inv.0

@@ -12,11 +12,11 @@ returns-then-not-begun c = takes-begins _ _ _ _ _ _ (not-true _ c.if-not-begun.t
 -- CONVERT clauses ['members_bound', 'takes']
 pub returns-then-joins : goal.returns-then-joins
 returns-then-joins c =
-    let tested = c.before.before in
+    let tested = c in
     takes-joins _ _ _ _ _ _ (not-false _ tested.if-not-begun.false-raw) (sym tested.joins.ensures ∙ c.if-joins.true) c.join.ensures
 
 -- CONVERT clauses ['members_bound', 'takes']
 pub returns : goal.returns
 returns c =
-    let tested = c.before.before in
+    let tested = c in
     takes-closes _ _ _ _ _ _ (not-false _ tested.if-not-begun.false-raw) (sym tested.joins.ensures ∙ c.if-joins.false) c.begin-2.ensures

@@ -10,6 +10,6 @@ sized c = search (rules, length_via, sized_via)
 
 pub returns : goal.returns
 returns c =
-    let found = c.before.before in
+    let found = c in
     rw c.count_up.ensures
     (renews found.args.self _ _ _ _ (sized found.before) found.detect_bigseg_zhongshus_by_overlap-found.ensures)
