@@ -2,18 +2,14 @@
 use Prim.Native.Nat.{◌-◌}
 use borrow.Author.Rules.{rules}
 use Rattle.bars_read.proofs.Fills.{Filling, filling_begins, fills-on, filled}
-use Rattle.bars_read.proofs.fill_bars.Goals.{After-price_at-in-loop-bars, At-loop-bars}
 use Rattle.bars_read.proofs.fill_bars.Goals as goal
-
-abbrev at-loop : After-price_at-in-loop-bars → At-loop-bars
-at-loop c = c.before.before.before
 
 pub loop-bars-init : goal.loop-bars-init
 loop-bars-init c = filling_begins _ _ _
 
 pub loop-bars-preserved : goal.loop-bars-preserved
 loop-bars-preserved c =
-    fills-on _ _ _ _ _ _ _ (at-loop c).loop-bars.invariant _ _ c.loop-bars-test.true (at-loop c).at_most-count.ensures _ _
+    fills-on _ _ _ _ _ _ _ c.loop-bars.invariant _ _ c.loop-bars-test.true c.at_most-count.ensures _ _
     c.price_at.ensures c.price_at-in-loop-bars.ensures
 
 pub returns : goal.returns

@@ -11,12 +11,12 @@ abbrev at-loop : After-head_of-head → At-loop-at
 at-loop c = c.before.before.before
 
 abbrev start : After-head_of-head → Start
-start c = (at-loop c).before.before
+start c = c.before.before.before.before.before
 
 turn :
     (c : After-head_of-head)
     → Turn (start c).args.places (start c).args.bytes.now (at-loop c).loop-at.bars (at-loop c).loop-at.at c.head_of-head.result
-turn c = record { reached = (at-loop c).loop-at.invariant; more = c.loop-at-test.true; called = c.head_of-head.ensures }
+turn c = record { reached = c.loop-at.invariant; more = c.loop-at-test.true; called = c.head_of-head.ensures }
 
 pub loop-at-init : goal.loop-at-init
 loop-at-init c = begins _ _

@@ -36,9 +36,8 @@ enum_told-1 c = search rules
 
 pub returns-in-Bad : goal.returns-in-Bad
 returns-in-Bad c =
-    let read = c in
-    bad_here _ _ _ read.next_entry-n.result.next read.next_entry-n.result.bars (rw c.in-Bad.is at read.next_entry-n.ensures)
-    ∙ read.loop-at.invariant.2
+    bad_here _ _ _ c.next_entry-n.result.next c.next_entry-n.result.bars (rw c.in-Bad.is at c.next_entry-n.ensures)
+    ∙ c.loop-at.invariant.2
 
 pub loop-at-smaller : goal.loop-at-smaller
 loop-at-smaller c = omega (arith, (good c).1.further, (good c).1.within)

@@ -13,21 +13,16 @@ rolled c = c.args.rolled
 
 pub returns-then-stroke-gt1 : goal.returns-then-stroke-gt1
 returns-then-stroke-gt1 c =
-    let read = c.before.before in
-    stroke_direction _ (rolled read) _ read.roll_of.ensures _ read.stroke_in-stroke.ensures (lt-ltb _ _ c.if-stroke-gt1.true)
+    stroke_direction _ (rolled c.before.before) _ c.roll_of.ensures _ c.stroke_in-stroke.ensures (lt-ltb _ _ c.if-stroke-gt1.true)
 
 pub returns-then-wrong_prices : goal.returns-then-wrong_prices
 unfolding bad_prices
 returns-then-wrong_prices c =
-    let test = c.before in
-    let read = test.before.before.before in
-    stroke-prices _ (rolled read) _ read.roll_of.ensures _ read.stroke_in-stroke.ensures (le-ltb _ _ test.if-stroke-gt1.false)
-    (sym test.wrong_prices.ensures ∙ c.if-wrong_prices.true)
+    stroke-prices _ (rolled c.before.before.before.before) _ c.roll_of.ensures _ c.stroke_in-stroke.ensures (le-ltb _ _ c.if-stroke-gt1.false)
+    (sym c.wrong_prices.ensures ∙ c.if-wrong_prices.true)
 
 pub returns : goal.returns
 unfolding bad_prices
 returns c =
-    let test = c.before in
-    let read = test.before.before.before in
-    stroke-given _ (rolled read) _ read.roll_of.ensures _ read.stroke_in-stroke.ensures (le-ltb _ _ test.if-stroke-gt1.false)
-    (sym test.wrong_prices.ensures ∙ c.if-wrong_prices.false)
+    stroke-given _ (rolled c.before.before.before.before) _ c.roll_of.ensures _ c.stroke_in-stroke.ensures (le-ltb _ _ c.if-stroke-gt1.false)
+    (sym c.wrong_prices.ensures ∙ c.if-wrong_prices.false)

@@ -25,9 +25,7 @@ returns-then-b-eq85 c = mark-superior _ _ c.if-a-eq83.true c.if-b-eq85.true
 
 pub returns-else-b-eq85 : goal.returns-else-b-eq85
 returns-else-b-eq85 c =
-    let r = c in
-    let t = r in
-    mark-no-s _ _ t.if-a-eq83.true t.if-b-eq84.false r.if-b-eq82-2.false r.if-b-eq71-2.false c.if-b-eq85.false
+    mark-no-s _ _ c.if-a-eq83.true c.if-b-eq84.false c.if-b-eq82-2.false c.if-b-eq71-2.false c.if-b-eq85.false
 
 pub returns-else-a-eq83 : goal.returns-else-a-eq83
 returns-else-a-eq83 c = mark-none _ _ c.if-a-eq66.false c.if-a-eq83.false

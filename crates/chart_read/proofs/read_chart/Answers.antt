@@ -20,16 +20,16 @@ abbrev at-loop : After-head_of-head → At-loop-at
 at-loop c = c.before.before.before
 
 abbrev start : After-head_of-head → Start
-start c = (at-loop c).before.before.before
+start c = c.before.before.before.before.before.before
 
 turn :
     (c : After-head_of-head)
     → Turn (start c).args.bytes.now (at-loop c).loop-at.chart (at-loop c).loop-at.passed (at-loop c).loop-at.at c.head_of-head.result
-turn c = record { reached = (at-loop c).loop-at.invariant; more = c.loop-at-test.true; called = c.head_of-head.ensures }
+turn c = record { reached = c.loop-at.invariant; more = c.loop-at-test.true; called = c.head_of-head.ensures }
 
 -- the record that is read, in each arm
 abbrev read : After-head_of-head → Answer Record
-read c = answer_at (start c).args.bytes.now (at-loop c).loop-at.at c.head_of-head.result
+read c = answer_at c.args.bytes.now c.loop-at.at c.head_of-head.result
 
 abbrev arm : In-Triple → After-head_of-head
 arm c = c.before.before.before
@@ -41,22 +41,21 @@ stroke-read : (c : In-Stroke) → read c.before.before.before ≡ given (stroke 
 stroke-read c = stroke-is (turn c.before.before.before) _ c.in-Stroke.is
 
 segment_read : (c : In-Segment) → read (arm c.before.before) ≡ given (segment (triple c.before.before))
-segment_read c = triple-is (turn (arm c.before.before)) _ level.Segment _ c.in-Triple.is c.in-Segment.is
+segment_read c = triple-is (turn c.before.before.before.before.before) _ level.Segment _ c.in-Triple.is c.in-Segment.is
 
 big_read : (c : In-Big) → read (arm c.before.before) ≡ given (big (triple c.before.before))
-big_read c = triple-is (turn (arm c.before.before)) _ level.Big _ c.in-Triple.is c.in-Big.is
+big_read c = triple-is (turn c.before.before.before.before.before) _ level.Big _ c.in-Triple.is c.in-Big.is
 
 superior_read : (c : In-Superior) → read (arm c.before.before) ≡ given (superior (triple c.before.before))
-superior_read c = triple-is (turn (arm c.before.before)) _ level.Superior _ c.in-Triple.is c.in-Superior.is
+superior_read c = triple-is (turn c.before.before.before.before.before) _ level.Superior _ c.in-Triple.is c.in-Superior.is
 
 pub loop-at-init : goal.loop-at-init
 loop-at-init c = let e = c.no_chart-chart.ensures in begins _ _ (sized c) e.0 e.1 e.2 e.3
 
 pub returns-in-Refused : goal.returns-in-Refused
 returns-in-Refused c =
-    let called = c.before.before.before.before in
     let e = c.refusal.ensures in
-    rw (e.0, e.1, e.2) (stops (turn called) _ c.in-Refused.is _)
+    rw (e.0, e.1, e.2) (stops (turn c.before.before.before.before) _ c.in-Refused.is _)
 
 pub bounds-chart-k : goal.bounds-chart-k
 bounds-chart-k c = omega (arith, has_place (turn c.before.before.before) _ (stroke-read c))
@@ -68,25 +67,25 @@ pub enum_told-1 : goal.enum_told-1
 enum_told-1 c = search rules
 
 pub bounds-chart-k-in-Segment : goal.bounds-chart-k-in-Segment
-bounds-chart-k-in-Segment c = omega (arith, has_place (turn (arm c.before.before)) _ (segment_read c))
+bounds-chart-k-in-Segment c = omega (arith, has_place (turn c.before.before.before.before.before) _ (segment_read c))
 
 pub loop-at-preserved-in-Segment : goal.loop-at-preserved-in-Segment
 unfolding width kind
-loop-at-preserved-in-Segment c = goes_on (turn (arm c.before.before)) _ (segment_read c) _ refl
+loop-at-preserved-in-Segment c = goes_on (turn c.before.before.before.before.before) _ (segment_read c) _ refl
 
 pub bounds-chart-k-in-Big : goal.bounds-chart-k-in-Big
-bounds-chart-k-in-Big c = omega (arith, has_place (turn (arm c.before.before)) _ (big_read c))
+bounds-chart-k-in-Big c = omega (arith, has_place (turn c.before.before.before.before.before) _ (big_read c))
 
 pub loop-at-preserved-in-Big : goal.loop-at-preserved-in-Big
 unfolding width kind
-loop-at-preserved-in-Big c = goes_on (turn (arm c.before.before)) _ (big_read c) _ refl
+loop-at-preserved-in-Big c = goes_on (turn c.before.before.before.before.before) _ (big_read c) _ refl
 
 pub bounds-chart-k-in-Superior : goal.bounds-chart-k-in-Superior
-bounds-chart-k-in-Superior c = omega (arith, has_place (turn (arm c.before.before)) _ (superior_read c))
+bounds-chart-k-in-Superior c = omega (arith, has_place (turn c.before.before.before.before.before) _ (superior_read c))
 
 pub loop-at-preserved-in-Superior : goal.loop-at-preserved-in-Superior
 unfolding width kind
-loop-at-preserved-in-Superior c = goes_on (turn (arm c.before.before)) _ (superior_read c) _ refl
+loop-at-preserved-in-Superior c = goes_on (turn c.before.before.before.before.before) _ (superior_read c) _ refl
 
 pub overflow_add-passed : goal.overflow_add-passed
 overflow_add-passed c = let w = turn c.before.before in record { fits = omega (arith, w.reached.fewer, w.more) }

@@ -13,11 +13,8 @@ returns-then-n-lt2 c f ts size g = ends-few f ts _ _ size _ c.if-case3-gt1.false
 
 pub returns-then-got : goal.returns-then-got
 returns-then-got c f ts size g =
-    let at2 = c in
-    ends-lacking f ts _ _ size _ at2.if-case3-gt1.false at2.if-n-lt2.false _ _ g c.if-got.true c.refused-then-got.ensures
+    ends-lacking f ts _ _ size _ c.if-case3-gt1.false c.if-n-lt2.false _ _ g c.if-got.true c.refused-then-got.ensures
 
 pub returns : goal.returns
 returns c f ts size g =
-    let at3 = c in
-    let at2 = at3 in
-    ends-all f ts _ _ size _ at2.if-case3-gt1.false at2.if-n-lt2.false _ _ g at3.if-got.false c.classes_of.ensures
+    ends-all f ts _ _ size _ c.if-case3-gt1.false c.if-n-lt2.false _ _ g c.if-got.false c.classes_of.ensures

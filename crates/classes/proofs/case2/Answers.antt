@@ -26,45 +26,35 @@ next c = item_in _ _ _ _ _ _ c.loop-j-test.true c.item_at-y.ensures
 
 pub loop-j-preserved-then-y-x : goal.loop-j-preserved-then-y-x
 loop-j-preserved-then-y-x c =
-    let at_item = c.before.before.before in
-    (omega arith, second-other _ _ _ _ _ at_item.loop-j.invariant.1 _ (next at_item) c.if-y-x.true)
+    (omega arith, second-other _ _ _ _ _ c.loop-j.invariant.1 _ (next c.before.before.before) c.if-y-x.true)
 
 pub returns-then-fails : goal.returns-then-fails
 returns-then-fails c =
-    let at-short = c.before.before in
-    let at1 = at-short.before in
-    let at_item = at1.before.before.before in
     record {
-      same = second-fails _ _ _ _ _ at_item.loop-j.invariant.1 _ (next at_item) at1.if-y-x.false
-          (sym at-short.at_or_short-fails.ensures ∙ c.if-fails.true);
+      same = second-fails _ _ _ _ _ c.loop-j.invariant.1 _ (next c.before.before.before.before.before.before) c.if-y-x.false
+          (sym c.at_or_short-fails.ensures ∙ c.if-fails.true);
       among = tt;
     }
 
 pub returns-then-ended : goal.returns-then-ended
 returns-then-ended c =
-    let at-beyond = c.before.before in
-    let at1 = at-beyond.before.before in
-    let at_item = at1.before.before.before in
     record {
-      same = second-ends _ _ _ _ _ at_item.loop-j.invariant.1 _ (next at_item) at1.if-y-x.false
-          (sym at-beyond.at_or_short-fails.ensures ∙ c.if-fails.false) (sym at-beyond.beyond-ended.ensures ∙ c.if-ended.true);
-      among = at_item.loop-j-test.true;
+      same = second-ends _ _ _ _ _ c.loop-j.invariant.1 _ (next c.before.before.before.before.before.before.before) c.if-y-x.false
+          (sym c.at_or_short-fails.ensures ∙ c.if-fails.false) (sym c.beyond-ended.ensures ∙ c.if-ended.true);
+      among = c.loop-j-test.true;
     }
 
 pub loop-j-preserved : goal.loop-j-preserved
 loop-j-preserved c =
-    let at-beyond = c.before.before in
-    let at1 = at-beyond.before.before in
-    let at_item = at1.before.before.before in (
+    (
       omega arith,
-      second-next _ _ _ _ _ at_item.loop-j.invariant.1 _ (next at_item) at1.if-y-x.false
-          (sym at-beyond.at_or_short-fails.ensures ∙ c.if-fails.false) (sym at-beyond.beyond-ended.ensures ∙ c.if-ended.false),
+      second-next _ _ _ _ _ c.loop-j.invariant.1 _ (next c.before.before.before.before.before.before.before) c.if-y-x.false
+          (sym c.at_or_short-fails.ensures ∙ c.if-fails.false) (sym c.beyond-ended.ensures ∙ c.if-ended.false),
     )
 
 pub returns : goal.returns
 returns c =
-    let head = c in
     record {
-      same = second-over _ _ _ _ _ head.loop-j.invariant.1 (items-over _ _ _ _ _ c.loop-j-test.false);
+      same = second-over _ _ _ _ _ c.loop-j.invariant.1 (items-over _ _ _ _ _ c.loop-j-test.false);
       among = tt;
     }

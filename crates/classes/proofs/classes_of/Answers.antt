@@ -7,6 +7,5 @@ use Rattle.classes.proofs.classes_of.Goals as goal
 
 pub returns : goal.returns
 returns c =
-    let at-walk = c in
-    classes_given _ _ _ _ (rw (items-length _ _ _ _) at-walk.requires.0) at-walk.walk-found.ensures c.extend_all-all.ensures
+    classes_given _ _ _ _ (rw (items-length _ _ _ _) c.requires.0) c.walk-found.ensures c.extend_all-all.ensures
     (search (rules, length_via))

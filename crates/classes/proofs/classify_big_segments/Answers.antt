@@ -32,7 +32,5 @@ answer-requires c = (few c.before).1
 pub returns : goal.returns
 unfolding segment_classes_call segment_classes_refusal segment_classes
 returns c =
-    let at-if = c.before.before in
-    let start = at-if.before.before in
-    c.answer.ensures _ (levels_of start.args.chart).segments (level-length _ (long start) (few at-if) false) c.items_of.ensures
-    ∙ sym (on-good _ _ (sym at-if.bad_chart.ensures ∙ at-if.if-bad_chart.false))
+    c.answer.ensures _ (levels_of c.args.chart).segments (level-length _ (long c.before.before.before.before) (few c.before.before) false) c.items_of.ensures
+    ∙ sym (on-good _ _ (sym c.bad_chart.ensures ∙ c.if-bad_chart.false))

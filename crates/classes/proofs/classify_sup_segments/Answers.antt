@@ -32,7 +32,5 @@ answer-requires c = (few c.before).2
 pub returns : goal.returns
 unfolding big_classes_call big_classes_refusal big_classes
 returns c =
-    let at-if = c.before.before in
-    let start = at-if.before.before in
-    c.answer.ensures _ (levels_of start.args.chart).bigs (level-length _ (long start) (few at-if) true) c.items_of.ensures
-    ∙ sym (on-good _ _ (sym at-if.bad_chart.ensures ∙ at-if.if-bad_chart.false))
+    c.answer.ensures _ (levels_of c.args.chart).bigs (level-length _ (long c.before.before.before.before) (few c.before.before) true) c.items_of.ensures
+    ∙ sym (on-good _ _ (sym c.bad_chart.ensures ∙ c.if-bad_chart.false))

@@ -33,36 +33,31 @@ returns-then-n-last c = extend-none _ _ _ _ (items-length _ _ _ _) c.if-n-last.t
 
 pub loop-at-init : goal.loop-at-init
 loop-at-init c =
-    let at-if = c in (
+    (
       omega (arith, c.at_most-end.ensures),
-      extend-begins _ _ _ _ (items-length _ _ _ _) _ _ (item_in _ _ _ _ _ _ at-if.if-n-last.false c.item_at-x.ensures) c.at_most-end.ensures,
+      extend-begins _ _ _ _ (items-length _ _ _ _) _ _ (item_in _ _ _ _ _ _ c.if-n-last.false c.item_at-x.ensures) c.at_most-end.ensures,
     )
 
 -- the next item
 next : (c : After-item_at-y) → get_elem? (reach c.before.before) c.loop-at.at ≡ some (item_of c.item_at-y.result)
 next c =
-    let head = c in
     at_take _ _ _ c.loop-at-test.true
-    ∙ item_in _ _ _ _ _ _ (omega (arith, head.loop-at.invariant.0, c.loop-at-test.true)) c.item_at-y.ensures
+    ∙ item_in _ _ _ _ _ _ (omega (arith, c.loop-at.invariant.0, c.loop-at-test.true)) c.item_at-y.ensures
 
 pub loop-at-preserved-then-not-reaches : goal.loop-at-preserved-then-not-reaches
 loop-at-preserved-then-not-reaches c =
-    let at_item = c.before.before in
-    let head = at_item.before.before in (
-      head.loop-at.invariant.0,
-      over-pass _ _ _ _ _ head.loop-at.invariant.1 _ (next at_item) _ c.reaches.ensures (not-true _ c.if-not-reaches.true-raw),
+    (
+      c.loop-at.invariant.0,
+      over-pass _ _ _ _ _ c.loop-at.invariant.1 _ (next c.before.before) _ c.reaches.ensures (not-true _ c.if-not-reaches.true-raw),
     )
 
 pub loop-at-preserved : goal.loop-at-preserved
 loop-at-preserved c =
-    let at-reaches = c.before.before in
-    let at_item = at-reaches.before in
-    let head = at_item.before.before in (
-      head.loop-at.invariant.0,
-      over-moves _ _ _ _ _ head.loop-at.invariant.1 _ (next at_item) _ at-reaches.reaches.ensures _ (not-false _ c.if-not-reaches.false-raw) c.moved-r.ensures,
+    (
+      c.loop-at.invariant.0,
+      over-moves _ _ _ _ _ c.loop-at.invariant.1 _ (next c.before.before.before) _ c.reaches.ensures _ (not-false _ c.if-not-reaches.false-raw) c.moved-r.ensures,
     )
 
 pub returns : goal.returns
 returns c =
-    let head = c.before in
-    over_none _ _ _ _ _ head.loop-at.invariant.1 (omega (arith, reach-length head, c.loop-at-test.false))
+    over_none _ _ _ _ _ c.loop-at.invariant.1 (omega (arith, reach-length c.before, c.loop-at-test.false))

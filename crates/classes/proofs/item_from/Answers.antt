@@ -25,7 +25,4 @@ returns-then-strokes-u-2 c = rw (lt-ltb _ _ c.if-below-t-2.false, le-ltb _ _ c.i
 pub returns : goal.returns
 unfolding item_from stroke_if item
 returns c =
-    let at3 = c in
-    let at2 = at3 in
-    let at1 = at2 in
-    simp (lt-ltb _ _ at1.if-below-t.false, lt-ltb _ _ at2.if-below-t-2.false, lt-ltb _ _ at3.if-strokes-u.false, lt-ltb _ _ c.if-strokes-u-2.false)
+    simp (lt-ltb _ _ c.if-below-t.false, lt-ltb _ _ c.if-below-t-2.false, lt-ltb _ _ c.if-strokes-u.false, lt-ltb _ _ c.if-strokes-u-2.false)

@@ -40,65 +40,55 @@ there :
     (c : After-chosen-t)
     → get_elem? (level_of (start (head c)).args.bigs (levels_of (start (head c)).args.chart)) (head c).loop-k.k ≡ some c.chosen-t.result
 there c =
-    let s = start (head c) in
-    level-at s.args.chart (long s) s.requires s.args.bigs _ _
-    (rw (head c).chosen_count-n.ensures at c.loop-k-test.true) c.chosen-t.ensures
+    level-at c.args.chart (long c.before.before.before.before.before.before.before) c.requires c.args.bigs _ _
+    (rw c.chosen_count-n.ensures at c.loop-k-test.true) c.chosen-t.ensures
 
 read :
     (c : After-item_from-read)
     → read_of c.item_from-read.result
     ≡ row_item (start (head (at_t (at_u c)))).args.bigs (levels_of (start (head (at_t (at_u c)))).args.chart) (at_t (at_u c)).chosen-t.result
 read c =
-    let u = at_u c in
-    let t = at_t u in
-    let s = start (head t) in
     c.item_from-read.ensures
-    ∙ item-read s.args.chart (long s) s.requires s.args.bigs _ _ _ _ _ _ _
-    (head t).chosen_count-below.ensures u.within.ensures u.within-in-loop-k.ensures
-    u.over_strokes-u.ensures c.within-in-loop-k-2.ensures c.within-in-loop-k-3.ensures
+    ∙ item-read c.args.chart (long c.before.before.before.before.before.before.before.before.before.before.before.before.before.before.before.before.before) c.requires c.args.bigs _ _ _ _ _ _ _
+    c.chosen_count-below.ensures c.within.ensures c.within-in-loop-k.ensures
+    c.over_strokes-u.ensures c.within-in-loop-k-2.ensures c.within-in-loop-k-3.ensures
 
 -- ---- needs
 
 pub loop-k-init : goal.loop-k-init
 unfolding items_of
 loop-k-init c =
-    let start = c in
-    let few : cond start.args.bigs start.args.chart.big_count start.args.chart.segment_count ≤ 256 =
-    pick_cond (λ (n : ℕ). n ≤ 256) start.args.bigs _ _ (λ e. start.requires.2) (λ e. start.requires.1) in
+    let few : cond c.args.bigs c.args.chart.big_count c.args.chart.segment_count ≤ 256 =
+    pick_cond (λ (n : ℕ). n ≤ 256) c.args.bigs _ _ (λ e. c.requires.2) (λ e. c.requires.1) in
     (omega (arith, c.chosen_count-n.ensures), omega arith, refl, refl, refl, refl, gathering-first _ _)
 
 pub returns-in_default : goal.returns-in_default
 returns-in_default c =
-    let t = at_t (at_u c.before.before) in
-    let inv = (head t).loop-k.invariant in
+    let inv = c.loop-k.invariant in
     rw inv.5
-    (gathering-missing _ _ _ _ inv.6 _ (there t) _ (sym (read c.before.before) ∙ ap read_of c.in_default.is))
+    (gathering-missing _ _ _ _ inv.6 _ (there c.before.before.before.before.before.before.before.before.before.before.before.before) _ (sym (read c.before.before) ∙ ap read_of c.in_default.is))
 
 pub loop-k-preserved : goal.loop-k-preserved
 loop-k-preserved c =
-    let at_read = c.before.before.before in
-    let t = at_t (at_u at_read) in
-    let got = (head t).loop-k.got in
-    let inv = (head t).loop-k.invariant in
-    let turn : (head t).loop-k.k < 256 = omega (arith, inv.0, t.loop-k-test.true) in (
+    let got = c.loop-k.got in
+    let inv = c.loop-k.invariant in
+    let turn : c.loop-k.k < 256 = omega (arith, inv.0, c.loop-k-test.true) in (
       inv.0,
-      omega (arith, t.loop-k-test.true),
+      omega (arith, c.loop-k-test.true),
       simp length-set inv.2,
       simp length-set inv.3,
       simp length-set inv.4,
       inv.5,
-      rw (item-more got.directions got.starts got.ends (head t).loop-k.k _ _ _ (omega (arith, inv.2, turn)) (omega (arith, inv.3, turn))
+      rw (item-more got.directions got.starts got.ends c.loop-k.k _ _ _ (omega (arith, inv.2, turn)) (omega (arith, inv.3, turn))
           (omega (arith, inv.4, turn)))
-          (gathering-there _ _ _ _ inv.6 _ (there t) _ (sym (read at_read) ∙ ap read_of c.in-There.is)),
+          (gathering-there _ _ _ _ inv.6 _ (there c.before.before.before.before.before.before.before.before.before.before.before.before.before) _ (sym (read c.before.before.before) ∙ ap read_of c.in-There.is)),
     )
 
 pub returns : goal.returns
 returns c =
-    let top = c.before in
-    let s = start top in
-    let size = level-length s.args.chart (long s) s.requires s.args.bigs in
-    let n = top.chosen_count-n.ensures in
-    let all : top.loop-k.k ≡ cond s.args.bigs s.args.chart.big_count s.args.chart.segment_count =
-    omega (arith, n, top.loop-k.invariant.1, c.loop-k-test.false)
+    let size = level-length c.args.chart (long c.before.before.before.before) c.requires c.args.bigs in
+    let n = c.chosen_count-n.ensures in
+    let all : c.loop-k.k ≡ cond c.args.bigs c.args.chart.big_count c.args.chart.segment_count =
+    omega (arith, n, c.loop-k.invariant.1, c.loop-k-test.false)
     in
-    rw all at (gathering-all _ _ _ _ top.loop-k.invariant.6 (omega (arith, size, all)))
+    rw all at (gathering-all _ _ _ _ c.loop-k.invariant.6 (omega (arith, size, all)))

@@ -27,64 +27,47 @@ here c = item_in _ _ _ _ _ _ c.loop-i-test.true c.item_at-x.ensures
 
 pub loop-i-preserved-then-not-next-i : goal.loop-i-preserved-then-not-next-i
 loop-i-preserved-then-not-next-i c =
-    let at-wanted = c.before in
-    let at_item = at-wanted.before in
-    let head = at_item.before.before in (
+    (
       omega arith,
       omega arith,
-      head.loop-i.invariant.2,
-      carries-pass _ _ _ _ _ _ _ head.loop-i.invariant.3 _ (here at_item) _ at-wanted.wanted-now.ensures (not-true _ c.if-not-next-i.true-raw),
+      c.loop-i.invariant.2,
+      carries-pass _ _ _ _ _ _ _ c.loop-i.invariant.3 _ (here c.before.before) _ c.wanted-now.ensures (not-true _ c.if-not-next-i.true-raw),
     )
 
 pub loop-i-preserved-in_default : goal.loop-i-preserved-in_default
 loop-i-preserved-in_default c =
-    let at_tried = c.before.before in
-    let at-if = at_tried.before.before in
-    let at-wanted = at-if.before in
-    let at_item = at-wanted.before in
-    let head = at_item.before.before in (
+    (
       omega arith,
       omega arith,
-      head.loop-i.invariant.2,
-      carries-none _ _ _ _ _ _ _ head.loop-i.invariant.3 _ (here at_item) _
-          at-wanted.wanted-now.ensures _ at_item.loop-i-test.true _ at_tried.case2-end.ensures _ at_tried.tried-found.ensures
-          (not-false _ at-if.if-not-next-i.false-raw) c.in_default.is,
+      c.loop-i.invariant.2,
+      carries-none _ _ _ _ _ _ _ c.loop-i.invariant.3 _ (here c.before.before.before.before.before.before) _
+          c.wanted-now.ensures _ c.loop-i-test.true _ c.case2-end.ensures _ c.tried-found.ensures
+          (not-false _ c.if-not-next-i.false-raw) c.in_default.is,
     )
 
 pub overflow_add-next : goal.overflow_add-next
 overflow_add-next c =
-    let at_tried = c.before.before.before.before in
-    let at-if = at_tried.before.before in
-    let at-wanted = at-if.before in
-    let at_item = at-wanted.before in
-    let head = at_item.before.before in
     let begins =
-    carries-begins _ _ _ _ _ _ _ head.loop-i.invariant.3 _ (here at_item) _
-    at-wanted.wanted-now.ensures _ at_item.loop-i-test.true _ at_tried.case2-end.ensures _ at_tried.tried-found.ensures
-    (not-false _ at-if.if-not-next-i.false-raw) _ c.in-Found.is in
-    omega (arith, begins.2, head.requires)
+    carries-begins _ _ _ _ _ _ _ c.loop-i.invariant.3 _ (here c.before.before.before.before.before.before.before.before) _
+    c.wanted-now.ensures _ c.loop-i-test.true _ c.case2-end.ensures _ c.tried-found.ensures
+    (not-false _ c.if-not-next-i.false-raw) _ c.in-Found.is in
+    omega (arith, begins.2, c.requires)
 
 pub loop-i-preserved : goal.loop-i-preserved
 loop-i-preserved c =
-    let at_tried = c.before.before.before.before in
-    let at-if = at_tried.before.before in
-    let at-wanted = at-if.before in
-    let at_item = at-wanted.before in
-    let head = at_item.before.before in
-    let room : head.loop-i.count < length head.loop-i.rows = omega (arith, head.loop-i.invariant, at_item.loop-i-test.true, head.requires) in (
+    let room : c.loop-i.count < length c.loop-i.rows = omega (arith, c.loop-i.invariant, c.loop-i-test.true, c.requires) in (
       omega arith,
-      omega (arith, head.loop-i.invariant),
-      simp length-set head.loop-i.invariant.2,
-      rw (one_more head.loop-i.rows head.loop-i.count _ room)
-          (carries-some _ _ _ _ _ _ _ head.loop-i.invariant.3 _ (here at_item) _
-          at-wanted.wanted-now.ensures _ at_item.loop-i-test.true _ at_tried.case2-end.ensures _ at_tried.tried-found.ensures
-          (not-false _ at-if.if-not-next-i.false-raw) _ c.in-Found.is),
+      omega (arith, c.loop-i.invariant),
+      simp length-set c.loop-i.invariant.2,
+      rw (one_more c.loop-i.rows c.loop-i.count _ room)
+          (carries-some _ _ _ _ _ _ _ c.loop-i.invariant.3 _ (here c.before.before.before.before.before.before.before.before) _
+          c.wanted-now.ensures _ c.loop-i-test.true _ c.case2-end.ensures _ c.tried-found.ensures
+          (not-false _ c.if-not-next-i.false-raw) _ c.in-Found.is),
     )
 
 pub returns : goal.returns
 returns c =
-    let head = c in
     record {
-      few = omega (arith, head.loop-i.invariant, head.requires);
-      are = carries-all _ _ _ _ _ _ _ head.loop-i.invariant.3 (items-over _ _ _ _ _ c.loop-i-test.false);
+      few = omega (arith, c.loop-i.invariant, c.requires);
+      are = carries-all _ _ _ _ _ _ _ c.loop-i.invariant.3 (items-over _ _ _ _ _ c.loop-i-test.false);
     }

@@ -14,16 +14,13 @@ long c = search (rules, length_via)
 
 pub returns-then-found-ne0 : goal.returns-then-found-ne0
 returns-then-found-ne0 c =
-    let at = c in
-    refused-rows _ _ (omega arith) ∙ marks-refused _ _ _ _ _ at.classify_sup_segments-found.ensures _ c.if-found-ne0.true
+    refused-rows _ _ (omega arith) ∙ marks-refused _ _ _ _ _ c.classify_sup_segments-found.ensures _ c.if-found-ne0.true
 
 pub marks_of-requires : goal.marks_of-requires
 marks_of-requires c =
-    let at = c.before in
-    let answer = at.classify_sup_segments-found.ensures in
-    (omega (arith, (found _ _ _ _ _ answer at.if-found-ne0.false).few, long at), given-stand _ _ _ _ _ answer at.if-found-ne0.false)
+    let answer = c.classify_sup_segments-found.ensures in
+    (omega (arith, (found _ _ _ _ _ answer c.if-found-ne0.false).few, long c.before), given-stand _ _ _ _ _ answer c.if-found-ne0.false)
 
 pub returns : goal.returns
 returns c =
-    let at = c in
-    c.marks_of.ensures ∙ marks-given _ _ _ _ _ at.classify_sup_segments-found.ensures at.if-found-ne0.false _
+    c.marks_of.ensures ∙ marks-given _ _ _ _ _ c.classify_sup_segments-found.ensures c.if-found-ne0.false _

@@ -13,25 +13,17 @@ loop-k-init c = record { long = omega arith; within = omega arith; left = refl; 
 
 pub returns-then-held-row : goal.returns-then-held-row
 returns-then-held-row c =
-    let in-loop = c in
-    let head = in-loop in
-    (omega arith, inserting-kept _ head.loop-k.k _ _ _ head.requires.0 head.loop-k.invariant in-loop.loop-k-test.true c.if-held-row.true)
+    (omega arith, inserting-kept _ c.loop-k.k _ _ _ c.requires.0 c.loop-k.invariant c.loop-k-test.true c.if-held-row.true)
 
 pub loop-k-preserved-then-row-held : goal.loop-k-preserved-then-row-held
 loop-k-preserved-then-row-held c =
-    let in-loop = c in
-    let head = in-loop in
-    inserting-later _ head.loop-k.k _ _ _ head.requires.0 head.loop-k.invariant in-loop.loop-k-test.true c.if-row-held.true
+    inserting-later _ c.loop-k.k _ _ _ c.requires.0 c.loop-k.invariant c.loop-k-test.true c.if-row-held.true
 
 pub loop-k-preserved : goal.loop-k-preserved
 loop-k-preserved c =
-    let at1 = c in
-    let in-loop = at1 in
-    let head = in-loop in
-    inserting-here _ head.loop-k.k _ _ _ head.requires.0 head.loop-k.invariant in-loop.loop-k-test.true
-    (omega (arith, at1.if-held-row.false, c.if-row-held.false))
+    inserting-here _ c.loop-k.k _ _ _ c.requires.0 c.loop-k.invariant c.loop-k-test.true
+    (omega (arith, c.if-held-row.false, c.if-row-held.false))
 
 pub returns : goal.returns
 returns c =
-    let head = c in
-    (omega arith, inserting-last _ head.loop-k.k _ _ _ head.requires.0 head.loop-k.invariant c.loop-k-test.false)
+    (omega arith, inserting-last _ c.loop-k.k _ _ _ c.requires.0 c.loop-k.invariant c.loop-k-test.false)

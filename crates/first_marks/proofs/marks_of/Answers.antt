@@ -22,7 +22,7 @@ use Rattle.first_marks.proofs.Neighbours.{Reads, reads_first, reads-last, stands
 use Rattle.first_marks.proofs.Neighbours.{marks-some, marks-all}
 use borrow.Author.Tests.{not-true, not-false}
 use borrow.Author.Rules.{rules}
-use Rattle.first_marks.proofs.marks_of.Goals.{After-beyond, After-inserted-more, After-struct_known-in-loop-i-1, After-struct_known-in-loop-i-2-1, After-struct_known-in-loop-i-3-1, After-struct_known-in-loop-i-4-1, After-struct_known-in-loop-i-5-1, Else-not-fitting, In-loop-i, Start}
+use Rattle.first_marks.proofs.marks_of.Goals.{After-inserted-more, Else-not-fitting, In-loop-i, Start}
 use Rattle.first_marks.proofs.marks_of.Goals as goal
 
 long : (c : Start) → c.args.n ≤ length c.args.classes
@@ -67,24 +67,6 @@ turn c = c.before.before.before.before
 fits : (c : Else-not-fitting) → fitting (start (turn c)).args.buy (class (turn c) (i (turn c))) (class (turn c) (i (turn c) + 1)) ≡ true
 fits c = sym c.fitting.ensures ∙ not-false _ c.if-not-fitting.false-raw
 
-abbrev from_a : After-struct_known-in-loop-i-1 → Else-not-fitting
-from_a c = c.before.before.before
-
-abbrev from_s : After-struct_known-in-loop-i-2-1 → Else-not-fitting
-from_s c = from_a c.before.before
-
-abbrev from_closing : After-struct_known-in-loop-i-3-1 → Else-not-fitting
-from_closing c = from_s c.before.before
-
-abbrev from_z : After-struct_known-in-loop-i-4-1 → Else-not-fitting
-from_z c = from_closing c.before.before
-
-abbrev from_e : After-struct_known-in-loop-i-5-1 → Else-not-fitting
-from_e c = from_z c.before.before
-
-abbrev compared : After-beyond → Else-not-fitting
-compared c = from_e c.before.before
-
 -- the rows behind a mark that was put in
 rows_long : (c : After-inserted-more) → length c.inserted-more.result.rows ≡ 256
 rows_long c = search (rules, length_via, c.inserted-more.type-inv)
@@ -94,74 +76,66 @@ loop-i-init c = (omega arith, omega arith, refl, none_left, refl)
 
 pub loop-i-preserved-then-not-fitting : goal.loop-i-preserved-then-not-fitting
 loop-i-preserved-then-not-fitting c =
-    let at = c.before.before.before.before in
-    let inv = at.loop-i.invariant in (
+    let inv = c.loop-i.invariant in (
       omega arith,
       omega (arith, inv.1),
       inv.2,
       inv.3,
-      marks-none _ _ _ (i at) _ _ _ (long (start at)) inv.4 at.loop-i-test.true
+      marks-none _ _ _ (i at) _ _ _ (long (start at)) inv.4 c.loop-i-test.true
           (first-unfit _ _ _ _ (placed at) (placed-next at) (sym c.fitting.ensures ∙ not-true _ c.if-not-fitting.true-raw)),
     )
 
 pub bounds-chart-q : goal.bounds-chart-q
-bounds-chart-q c = let at = turn c.before in omega (arith, (begins at).bigs, bigs_long (start at))
+bounds-chart-q c = omega (arith, (begins at).bigs, bigs_long (start at))
 
 pub bounds-chart-opening : goal.bounds-chart-opening
-bounds-chart-opening c = let at = turn (from_a c) in omega (arith, (begins at).segments, segments_long (start at))
+bounds-chart-opening c = omega (arith, (begins at).segments, segments_long (start at))
 
 pub bounds-chart-a : goal.bounds-chart-a
-bounds-chart-a c = let at = turn (from_s c) in omega (arith, (begins at).strokes, strokes_long (start at))
+bounds-chart-a c = omega (arith, (begins at).strokes, strokes_long (start at))
 
 pub bounds-chart-next : goal.bounds-chart-next
-bounds-chart-next c = let at = turn (from_closing c) in omega (arith, (ends at).bigs, bigs_long (start at))
+bounds-chart-next c = omega (arith, (ends at).bigs, bigs_long (start at))
 
 pub bounds-chart-closing : goal.bounds-chart-closing
-bounds-chart-closing c = let at = turn (from_z c) in omega (arith, (ends at).segments, segments_long (start at))
+bounds-chart-closing c = omega (arith, (ends at).segments, segments_long (start at))
 
 pub bounds-chart-z : goal.bounds-chart-z
-bounds-chart-z c = let at = turn (from_e c) in omega (arith, (ends at).strokes, strokes_long (start at))
+bounds-chart-z c = omega (arith, (ends at).strokes, strokes_long (start at))
 
 pub loop-i-preserved-then-not-beyond : goal.loop-i-preserved-then-not-beyond
 loop-i-preserved-then-not-beyond c =
-    let fitted = compared c.before in
-    let at = turn fitted in
-    let inv = at.loop-i.invariant in (
-      omega (arith, at.loop-i-test.true),
+    let inv = c.loop-i.invariant in (
+      omega (arith, c.loop-i-test.true),
       omega (arith, inv.1),
       inv.2,
       inv.3,
-      marks-none _ _ _ (i at) _ _ _ (long (start at)) inv.4 at.loop-i-test.true
-          (first_short _ _ _ _ (placed at) (placed-next at) _ _ (begins at).same (ends at).same (fits fitted)
+      marks-none _ _ _ (i at) _ _ _ (long (start at)) inv.4 c.loop-i-test.true
+          (first_short _ _ _ _ (placed at) (placed-next at) _ _ (begins at).same (ends at).same (fits c.before.before.before.before.before.before.before.before.before.before.before.before.before.before)
           (sym c.beyond.ensures ∙ not-true _ c.if-not-beyond.true-raw)),
     )
 
 pub inserted-more-requires : goal.inserted-more-requires
 inserted-more-requires c =
-    let at = turn (compared c.before) in
-    let inv = at.loop-i.invariant in
-    (omega (arith, inv.1, at.loop-i-test.true, (start at).requires.0), inv.3)
+    let inv = c.loop-i.invariant in
+    (omega (arith, inv.1, c.loop-i-test.true, (start at).requires.0), inv.3)
 
 pub loop-i-preserved : goal.loop-i-preserved
 loop-i-preserved c =
-    let at-if = c in
-    let fitted = compared at-if.before in
-    let at = turn fitted in
-    let inv = at.loop-i.invariant in
+    let inv = c.loop-i.invariant in
     let put = c.inserted-more.ensures in (
-      omega (arith, at.loop-i-test.true),
+      omega (arith, c.loop-i-test.true),
       omega (arith, put.0, inv.1),
       rows_long c.before,
       rw put.1 (insert_rises _ _ inv.3),
       rw put.1
-          (marks-some _ _ _ (i at) _ _ _ (long (start at)) inv.4 at.loop-i-test.true _
-          (first-beyond _ _ _ _ (placed at) (placed-next at) _ _ (begins at).same (ends at).same (fits fitted)
-          (sym at-if.beyond.ensures ∙ not-false _ at-if.if-not-beyond.false-raw))),
+          (marks-some _ _ _ (i at) _ _ _ (long (start at)) inv.4 c.loop-i-test.true _
+          (first-beyond _ _ _ _ (placed at) (placed-next at) _ _ (begins at).same (ends at).same (fits c.before.before.before.before.before.before.before.before.before.before.before.before.before.before.before.before)
+          (sym c.beyond.ensures ∙ not-false _ c.if-not-beyond.false-raw))),
     )
 
 pub returns : goal.returns
 returns c =
-    let head = c in
-    let inv = head.loop-i.invariant in
-    given-rows head.loop-i.rows head.loop-i.count (omega (arith, inv, head.requires.0))
-    ∙ ap given (marks-all _ _ _ head.loop-i.i _ _ _ (long head.before) inv.4 c.loop-i-test.false)
+    let inv = c.loop-i.invariant in
+    given-rows c.loop-i.rows c.loop-i.count (omega (arith, inv, c.requires.0))
+    ∙ ap given (marks-all _ _ _ c.loop-i.i _ _ _ (long c.before.before) inv.4 c.loop-i-test.false)

@@ -23,26 +23,20 @@ returns-then-n-gt256 c = live-count _ (omega (arith, c.if-n-gt256.true))
 
 pub returns-then-found-ne0 : goal.returns-then-found-ne0
 returns-then-found-ne0 c =
-    let found = c in
-    live-refused _ (few found.before) _ _ _ found.detect_bigseg_zhongshus_by_overlap-found.ensures (λ z. absurd (omega (arith, z, c.if-found-ne0.true)))
+    live-refused _ (few c.before.before.before) _ _ _ c.detect_bigseg_zhongshus_by_overlap-found.ensures (λ z. absurd (omega (arith, z, c.if-found-ne0.true)))
 
 pub broken_levels-broken-requires : goal.broken_levels-broken-requires
 broken_levels-broken-requires c = found-room _ _ _ _ c.detect_bigseg_zhongshus_by_overlap-found.ensures (given c)
 
 pub same_zones-requires : goal.same_zones-requires
 same_zones-requires c =
-    let at2 = c.before.before in
-    let found = at2.before.before in
-    let answer = found.detect_bigseg_zhongshus_by_overlap-found.ensures in (
-      few found.before,
-      omega (arith, found-few _ _ _ _ answer (given at2), rows_long found),
-      found-priced _ _ _ _ answer (given at2),
+    let answer = c.detect_bigseg_zhongshus_by_overlap-found.ensures in (
+      few c.before.before.before.before.before,
+      omega (arith, found-few _ _ _ _ answer (given c.before.before), rows_long c.before.before.before.before),
+      found-priced _ _ _ _ answer (given c.before.before),
     )
 
 pub returns : goal.returns
 returns c =
-    let asked = c.before.before in
-    let at2 = asked.before in
-    let found = at2.before.before in
-    live-given _ (few found.before) _ _ _ found.detect_bigseg_zhongshus_by_overlap-found.ensures _ _ (given at2)
-    asked.broken_levels-broken.ensures c.same_zones.ensures
+    live-given _ (few c.before.before.before.before.before.before) _ _ _ c.detect_bigseg_zhongshus_by_overlap-found.ensures _ _ (given c.before.before.before)
+    c.broken_levels-broken.ensures c.same_zones.ensures

@@ -15,5 +15,4 @@ returns-then-is_price c = rw (c.bits_of_price.ensures, c.bits_of_price-then-is_p
 
 pub returns : goal.returns
 returns c =
-    let start = c in
-    no_price_lem _ _ (passes _ start.well_formed.0.1) start.requires (sym c.is_price.ensures ∙ c.if-is_price.false)
+    no_price_lem _ _ (passes _ c.well_formed.0.1) c.requires (sym c.is_price.ensures ∙ c.if-is_price.false)

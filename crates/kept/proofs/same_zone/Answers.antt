@@ -20,7 +20,4 @@ same_price-requires-4 c = (prices c.before.before.before).gg_price
 
 pub returns : goal.returns
 returns c =
-    let at4 = c in
-    let at3 = at4 in
-    let at2 = at3 in
-    same-fields _ _ _ _ _ _ at2.same_price.ensures at2.same_price-2.ensures at3.same_price-3.ensures at4.same_price-4.ensures
+    same-fields _ _ _ _ _ _ c.same_price.ensures c.same_price-2.ensures c.same_price-3.ensures c.same_price-4.ensures

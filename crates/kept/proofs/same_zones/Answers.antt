@@ -30,31 +30,21 @@ loop-i-init c = (omega arith, refl)
 
 pub same_zone-requires : goal.same_zone-requires
 same_zone-requires c =
-    let in-loop = c.before.before in
-    let start = in-loop.before.before.before in
-    priced-at _ in-loop.loop-i.i _ _ start.requires.2 (below in-loop) (right_long start)
+    priced-at _ c.loop-i.i _ _ c.requires.2 (below c.before.before) (right_long c.before.before.before.before.before)
 
 pub returns-then-not-same_zone : goal.returns-then-not-same_zone
 returns-then-not-same_zone c =
-    let in-loop = c.before.before.before.before in
-    let head = in-loop.before in
-    let start = head.before.before in
     let other = sym c.same_zone.ensures ∙ not-true _ c.if-not-same_zone.true-raw in
-    sym (same_here _ _ _ _ (left_long start) (right_long start) head.loop-i.i _ (inside in-loop) (below in-loop) other) ∙ head.loop-i.invariant.1
+    sym (same_here _ _ _ _ (left_long c.before.before.before.before.before.before.before) (right_long c.before.before.before.before.before.before.before) c.loop-i.i _ (inside c.before.before.before.before) (below c.before.before.before.before) other) ∙ c.loop-i.invariant.1
 
 pub loop-i-preserved : goal.loop-i-preserved
 loop-i-preserved c =
-    let in-loop = c.before.before.before.before in
-    let head = in-loop.before in
-    let start = head.before.before in
     let one = sym c.same_zone.ensures ∙ not-false _ c.if-not-same_zone.false-raw in (
       omega arith,
-      sym (same-later _ _ _ _ (left_long start) (right_long start) head.loop-i.i _ (inside in-loop) (below in-loop) one) ∙ head.loop-i.invariant.1,
+      sym (same-later _ _ _ _ (left_long c.before.before.before.before.before.before.before) (right_long c.before.before.before.before.before.before.before) c.loop-i.i _ (inside c.before.before.before.before) (below c.before.before.before.before) one) ∙ c.loop-i.invariant.1,
     )
 
 pub returns : goal.returns
 returns c =
-    let head = c.before in
-    let start = head.before.before in
-    let past : start.args.n ≤ head.loop-i.i = omega (arith, c.loop-i-test.false) in
-    sym (same_end _ _ _ _ (left_long start) (right_long start) head.loop-i.i past (omega (arith, past, head.if-n-m.false))) ∙ head.loop-i.invariant.1
+    let past : c.args.n ≤ c.loop-i.i = omega (arith, c.loop-i-test.false) in
+    sym (same_end _ _ _ _ (left_long c.before.before.before) (right_long c.before.before.before) c.loop-i.i past (omega (arith, past, c.if-n-m.false))) ∙ c.loop-i.invariant.1

@@ -16,18 +16,14 @@ loop-k-init c = (search rules, refl, refl, λ l t. record { by_start = refl; by_
 
 pub loop-k-preserved : goal.loop-k-preserved
 loop-k-preserved c =
-    let read = c in
-    let turn = read in
-    let head = turn in
-    let inv = head.loop-k.invariant in (
+    let inv = c.loop-k.invariant in (
       search rules,
       search rules,
       search rules,
-      λ l t. columns-more l _ _ _ t head.loop-k.k head.loop-k.starts head.loop-k.ends (inv.3 l t) _ _ _ turn.loop-k-test.true
-          (search rules) (search rules) read.range_at.ensures c.bar_of-bar.ensures.0 c.bar_of-bar.ensures.1,
+      λ l t. columns-more l _ _ _ t c.loop-k.k c.loop-k.starts c.loop-k.ends (inv.3 l t) _ _ _ c.loop-k-test.true
+          (search rules) (search rules) c.range_at.ensures c.bar_of-bar.ensures.0 c.bar_of-bar.ensures.1,
     )
 
 pub returns : goal.returns
 returns c =
-    let head = c in
-    let inv = head.loop-k.invariant in record { wide = (inv.1, inv.2); bar_columns = λ l t. columns-all l _ _ _ t head.loop-k.k _ _ (inv.3 l t) c.loop-k-test.false inv.0; }
+    let inv = c.loop-k.invariant in record { wide = (inv.1, inv.2); bar_columns = λ l t. columns-all l _ _ _ t c.loop-k.k _ _ (inv.3 l t) c.loop-k-test.false inv.0; }

@@ -2,15 +2,7 @@
 use mathlib.Core.Path.{refl, ◌∙◌}
 use borrow.Author.Rules.{rules}
 use Rattle.labels.proofs.Call.{labels_by}
-use Rattle.labels.proofs.detect_bigseg_trend_zhongshus.Goals.{After-prices-2-1, After-tables_of-begun, Else-begun-ne0}
 use Rattle.labels.proofs.detect_bigseg_trend_zhongshus.Goals as goal
-
--- the call is not refused
-abbrev else1 : After-prices-2-1 → Else-begun-ne0
-else1 c = c.before.before.before.before.before
-
-abbrev begun : Else-begun-ne0 → After-tables_of-begun
-begun c = c.before.before
 
 pub tables_of-begun-requires : goal.tables_of-begun-requires
 tables_of-begun-requires c = ((refl, refl), (refl, refl), refl)
@@ -20,12 +12,11 @@ returns-then-begun-ne0 c = c.refusal.ensures ∙ (labels_by _ _ c.tables_of-begu
 
 pub labels_of-requires : goal.labels_of-requires
 labels_of-requires c =
-    let tables = (begun (else1 c)).tables_of-begun.ensures.tables.0 (else1 c).if-begun-ne0.false in
+    let tables = c.tables_of-begun.ensures.tables c.if-begun-ne0.false in
     (tables.fits.zones, tables.fits.bigs)
 
 pub returns : goal.returns
 returns c =
-    let known = else1 c.before in
-    let made = (begun known).tables_of-begun.ensures in
-    let tables = made.1.0 known.if-begun-ne0.false in
-    c.labels_of.ensures _ _ tables.bigs tables.zones ∙ (labels_by _ _ made.0).1 known.if-begun-ne0.false
+    let made = c.tables_of-begun.ensures in
+    let tables = made.1.0 c.if-begun-ne0.false in
+    c.labels_of.ensures _ _ tables.bigs tables.zones ∙ (labels_by _ _ made.0).1 c.if-begun-ne0.false

@@ -7,8 +7,7 @@ use Rattle.labels.proofs.label_of.Goals as goal
 
 pub returns-in_default : goal.returns-in_default
 returns-in_default c =
-    let named = c in
-    label-extended _ _ _ _ named.name_of-name.ensures _ _ named.marked-label.ensures.0 _ refl
+    label-extended _ _ _ _ c.name_of-name.ensures _ _ c.marked-label.ensures.0 _ refl
     c.in_default.is c.with_extension.ensures
 
 -- CONVERT lost goal overflow-add-t10
@@ -19,5 +18,4 @@ returns-in_default c =
 
 pub returns : goal.returns
 returns c =
-    let named = c in
-    label-named _ _ _ _ named.name_of-name.ensures _ _ named.marked-label.ensures.0 _ c.in-Number.is c.with_name.ensures
+    label-named _ _ _ _ c.name_of-name.ensures _ _ c.marked-label.ensures.0 _ c.in-Number.is c.with_name.ensures

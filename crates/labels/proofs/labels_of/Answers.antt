@@ -27,23 +27,17 @@ lone-alone-requires c =
 
 pub loop-k-preserved : goal.loop-k-preserved
 loop-k-preserved c =
-    let labelled = c in
-    let counted = labelled in
-    let read = counted in
-    let turn = read in
-    let head = turn in
-    let inv = head.loop-k.invariant in (
+    let inv = c.loop-k.invariant in (
       search rules,
       search rules,
-      omega (arith, label_next _ _ _ _ labelled.label_of-next.ensures),
-      λ l zs t z. labels-step l zs _ _ _ z head.loop-k.k head.loop-k.last head.loop-k.rows _ (inv.3 l zs t z) _ _ _
-          turn.loop-k-test.true (search rules) read.zone_at-zone.ensures
-          (rw (count_touches l _ l.bigs) at (counted.lone-alone.ensures _ (head.bars_of-columns.ensures.bar_columns l t)))
-          labelled.label_of-next.ensures,
+      omega (arith, label_next _ _ _ _ c.label_of-next.ensures),
+      λ l zs t z. labels-step l zs _ _ _ z c.loop-k.k c.loop-k.last c.loop-k.rows _ (inv.3 l zs t z) _ _ _
+          c.loop-k-test.true (search rules) c.zone_at-zone.ensures
+          (rw (count_touches l _ l.bigs) at (c.lone-alone.ensures _ (c.bars_of-columns.ensures.bar_columns l t)))
+          c.label_of-next.ensures,
     )
 
 pub returns : goal.returns
 returns c l zs t z =
-    let head = c in
-    let inv = head.loop-k.invariant in
-    labels-end l zs _ _ _ z head.loop-k.k head.loop-k.last head.loop-k.rows _ (inv.3 l zs t z) c.loop-k-test.false inv.0 (search rules)
+    let inv = c.loop-k.invariant in
+    labels-end l zs _ _ _ z c.loop-k.k c.loop-k.last c.loop-k.rows _ (inv.3 l zs t z) c.loop-k-test.false inv.0 (search rules)

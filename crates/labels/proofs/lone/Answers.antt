@@ -13,21 +13,17 @@ overflow_add-n c = omega (arith, touch-most _ _ _ _ _ c.touches-n.ensures)
 
 pub loop-k-preserved : goal.loop-k-preserved
 loop-k-preserved c =
-    let at-loop = c in
-    let start = at-loop in
-    let a = start.args in
-    let i = at-loop.loop-k.invariant in (
+    let a = c.args in
+    let i = c.loop-k.invariant in (
       search rules,
       omega (arith, touch-most _ _ _ _ _ c.touches-n.ensures),
-      touching-next _ _ a.m at-loop.loop-k.k _ a.starts.now a.ends.now _ start.requires.1 start.requires.2 _
+      touching-next _ _ a.m c.loop-k.k _ a.starts.now a.ends.now _ c.requires.1 c.requires.2 _
           (search rules) c.touches-n.ensures i.2,
     )
 
 pub returns : goal.returns
 returns c ranges columns =
-    let at-loop = c in
-    let start = at-loop in
-    let a = start.args in
-    let n = touching-end _ _ a.m at-loop.loop-k.k at-loop.loop-k.n a.starts.now a.ends.now _ start.requires.1 start.requires.2
-    (search rules) at-loop.loop-k.invariant.2 in
-    lone_columns a.zone a.m at-loop.loop-k.n _ _ ranges columns n
+    let a = c.args in
+    let n = touching-end _ _ a.m c.loop-k.k c.loop-k.n a.starts.now a.ends.now _ c.requires.1 c.requires.2
+    (search rules) c.loop-k.invariant.2 in
+    lone_columns a.zone a.m c.loop-k.n _ _ ranges columns n

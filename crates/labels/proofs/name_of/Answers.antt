@@ -12,17 +12,12 @@ returns-then-held-zone c = name-other _ _ _ _ c.in-Named.is (λ same. omega (ari
 
 pub returns-then-zone-held : goal.returns-then-zone-held
 returns-then-zone-held c =
-    let same = c in
-    name_above _ _ _ _ same.in-Named.is (omega (arith, same.if-held-zone.false)) c.if-zone-held.true
+    name_above _ _ _ _ c.in-Named.is (omega (arith, c.if-held-zone.false)) c.if-zone-held.true
 
 pub returns-then-zone-held-2 : goal.returns-then-zone-held-2
 returns-then-zone-held-2 c =
-    let above = c in
-    let same = above in
-    name_below _ _ _ _ same.in-Named.is (omega (arith, same.if-held-zone.false)) above.if-zone-held.false c.if-zone-held-2.true
+    name_below _ _ _ _ c.in-Named.is (omega (arith, c.if-held-zone.false)) c.if-zone-held.false c.if-zone-held-2.true
 
 pub returns : goal.returns
 returns c =
-    let above = c in
-    let same = above in
-    name-none _ _ _ _ same.in-Named.is (omega (arith, same.if-held-zone.false)) above.if-zone-held.false c.if-zone-held-2.false
+    name-none _ _ _ _ c.in-Named.is (omega (arith, c.if-held-zone.false)) c.if-zone-held.false c.if-zone-held-2.false

@@ -13,16 +13,14 @@ loop-i-init c = (search rules, refl, refl)
 
 pub loop-i-preserved : goal.loop-i-preserved
 loop-i-preserved c =
-    let at-loop = c in
-    let start = at-loop in (
+    (
       search rules,
       search rules,
-      one_class_more at-loop.loop-i.i at-loop.loop-i.triples start.args.classes _ _ (search rules) (search rules) c.triple_of.ensures
-          at-loop.loop-i.invariant.2,
+      one_class_more c.loop-i.i c.loop-i.triples c.args.classes _ _ (search rules) (search rules) c.triple_of.ensures
+          c.loop-i.invariant.2,
     )
 
 pub returns : goal.returns
 returns c =
-    let at-loop = c in
-    let same : at-loop.args.n ≡ at-loop.loop-i.i = search rules in
-    rw same at-loop.loop-i.invariant.2
+    let same : c.args.n ≡ c.loop-i.i = search rules in
+    rw same c.loop-i.invariant.2

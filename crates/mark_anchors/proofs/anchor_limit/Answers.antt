@@ -15,19 +15,14 @@ loop-j-init c = (c.requires.0, λ l t. refl)
 
 pub returns-then-not-is_way : goal.returns-then-not-is_way
 returns-then-not-is_way c =
-    let test = c in
-    let turn = test in
-    let head = turn in
-    λ l b t. other-here l _ _ t _ head.loop-j.j (head.loop-j.invariant.1 l t) turn.loop-j-test.true _ test.is_way.ensures test.if-not-is_way.true-raw
+    λ l b t. other-here l _ _ t _ c.loop-j.j (c.loop-j.invariant.1 l t) c.loop-j-test.true _ c.is_way.ensures c.if-not-is_way.true-raw
     _ (c.limit_at.ensures l b)
 
 pub loop-j-preserved : goal.loop-j-preserved
 loop-j-preserved c =
-    let turn = c in
-    let inv = turn.loop-j.invariant in
-    (inv.0, λ l t. other-later l _ _ t _ turn.loop-j.j (inv.1 l t) turn.loop-j-test.true _ c.is_way.ensures c.if-not-is_way.false-raw)
+    let inv = c.loop-j.invariant in
+    (inv.0, λ l t. other-later l _ _ t _ c.loop-j.j (inv.1 l t) c.loop-j-test.true _ c.is_way.ensures c.if-not-is_way.false-raw)
 
 pub returns : goal.returns
 returns c =
-    let head = c in
-    λ l b t. other_none l _ _ t _ head.loop-j.j (head.loop-j.invariant.1 l t) c.loop-j-test.false
+    λ l b t. other_none l _ _ t _ c.loop-j.j (c.loop-j.invariant.1 l t) c.loop-j-test.false

@@ -9,10 +9,8 @@ returns-then-m-i c = λ l t. limit-no-big l _ _ _ t _ c.if-m-i.true
 
 pub returns-in_default : goal.returns-in_default
 returns-in_default c =
-    let read = c in
-    λ l t. limit-nowhere l _ _ _ t _ read.if-m-i.false (sym read.point_at.ensures ∙ c.in_default.is)
+    λ l t. limit-nowhere l _ _ _ t _ c.if-m-i.false (sym c.point_at.ensures ∙ c.in_default.is)
 
 pub returns : goal.returns
 returns c =
-    let read = c in
-    λ l t. limit-there l _ _ _ t _ read.if-m-i.false _ _ (sym read.point_at.ensures ∙ c.in-At.is)
+    λ l t. limit-there l _ _ _ t _ c.if-m-i.false _ _ (sym c.point_at.ensures ∙ c.in-At.is)

@@ -8,12 +8,10 @@ use Rattle.mark_hits.proofs.anchor_at.Goals as goal
 
 pub returns-then-anchors-i-eq0 : goal.returns-then-anchors-i-eq0
 returns-then-anchors-i-eq0 c =
-    let start = c in
-    row-nowhere (get_or start.args.anchors.now start.args.i []) (get_or start.args.cs.now start.args.i nan) _
+    row-nowhere (get_or c.args.anchors.now c.args.i []) (get_or c.args.cs.now c.args.i nan) _
     c.wide-from.ensures.0 c.if-anchors-i-eq0.true
 
 pub returns : goal.returns
 returns c =
-    let start = c in
-    row-priced (get_or start.args.anchors.now start.args.i []) (get_or start.args.cs.now start.args.i nan) _
+    row-priced (get_or c.args.anchors.now c.args.i []) (get_or c.args.cs.now c.args.i nan) _
     c.wide-from.ensures.0 c.if-anchors-i-eq0.false

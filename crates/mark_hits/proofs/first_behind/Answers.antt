@@ -18,13 +18,11 @@ loop-k-init c =
 
 pub loop-k-preserved-in_default : goal.loop-k-preserved-in_default
 loop-k-preserved-in_default c =
-    let read = c in
-    let turn = read in
-    let args = turn.args in
-    let inv = turn.loop-k.invariant in (
+    let args = c.args in
+    let inv = c.loop-k.invariant in (
       inv.0,
-      omega (arith, turn.loop-k-test.true),
-      behind-nowhere _ _ _ args.last args.place _ _ inv.2 turn.loop-k-test.true (sym read.point_at.ensures ∙ c.in_default.is),
+      omega (arith, c.loop-k-test.true),
+      behind-nowhere _ _ _ args.last args.place _ _ inv.2 c.loop-k-test.true (sym c.point_at.ensures ∙ c.in_default.is),
     )
 
 pub returns-then-is_behind : goal.returns-then-is_behind
@@ -33,15 +31,12 @@ returns-then-is_behind c =
 
 pub loop-k-preserved : goal.loop-k-preserved
 loop-k-preserved c =
-    let behind = c in
-    let read = behind in
-    let turn = read in
-    let args = turn.args in
-    let inv = turn.loop-k.invariant in (
+    let args = c.args in
+    let inv = c.loop-k.invariant in (
       inv.0,
-      omega (arith, turn.loop-k-test.true),
-      behind-soon _ _ _ args.last args.place _ _ inv.2 turn.loop-k-test.true _ _
-          (sym read.point_at.ensures ∙ behind.in-At.is) (sym behind.is_behind.ensures.0 ∙ c.if-is_behind.false),
+      omega (arith, c.loop-k-test.true),
+      behind-soon _ _ _ args.last args.place _ _ inv.2 c.loop-k-test.true _ _
+          (sym c.point_at.ensures ∙ c.in-At.is) (sym c.is_behind.ensures.0 ∙ c.if-is_behind.false),
     )
 
 pub returns : goal.returns

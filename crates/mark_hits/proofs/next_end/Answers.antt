@@ -9,69 +9,42 @@ use Rattle.rules.specs.Records.{Levels}
 use Rattle.tables.specs.Tables.{Bigs}
 use Rattle.mark_hits.specs.Anchors.{ends_in}
 use Rattle.mark_hits.proofs.Ends.{ends-over, ends-other, ends_nowhere, ends-soon, ends-here}
-use Rattle.mark_hits.proofs.next_end.Goals.{After-is_behind, After-is_way, After-point_at, In-loop-k}
 use Rattle.mark_hits.proofs.next_end.Goals as goal
-
--- the places of the code that the proof goes back to
-abbrev in-loop : After-is_way → In-loop-k
-in-loop c = c.before.before
-
-abbrev way_of : After-point_at → After-is_way
-way_of c = c.before.before
-
-abbrev read_of : After-is_behind → After-point_at
-read_of c = c.before.before.before.before
 
 pub loop-k-init : goal.loop-k-init
 loop-k-init c = (omega arith, c.requires, λ l t. refl)
 
 pub loop-k-preserved-then-not-is_way : goal.loop-k-preserved-then-not-is_way
 loop-k-preserved-then-not-is_way c =
-    let way = c.before in
-    let turn = in-loop way in
-    let head = turn.before in
-    let inv = head.loop-k.invariant in (
+    let inv = c.loop-k.invariant in (
       omega (arith, inv.0),
       inv.1,
-      λ l t. ends-other _ _ _ _ _ head.loop-k.k l t _ (inv.2 l t) turn.loop-k-test.true _ way.way_at.ensures
-          (sym way.is_way.ensures ∙ not-true _ c.if-not-is_way.true-raw),
+      λ l t. ends-other _ _ _ _ _ c.loop-k.k l t _ (inv.2 l t) c.loop-k-test.true _ c.way_at.ensures
+          (sym c.is_way.ensures ∙ not-true _ c.if-not-is_way.true-raw),
     )
 
 pub loop-k-preserved-in_default : goal.loop-k-preserved-in_default
 loop-k-preserved-in_default c =
-    let read = c.before.before in
-    let turn = in-loop (way_of read) in
-    let head = turn.before in
-    let inv = head.loop-k.invariant in (
+    let inv = c.loop-k.invariant in (
       omega (arith, inv.0),
       inv.1,
-      λ l t. ends_nowhere _ _ _ _ _ head.loop-k.k l t _ (inv.2 l t) turn.loop-k-test.true (sym read.point_at.ensures ∙ c.in_default.is),
+      λ l t. ends_nowhere _ _ _ _ _ c.loop-k.k l t _ (inv.2 l t) c.loop-k-test.true (sym c.point_at.ensures ∙ c.in_default.is),
     )
 
 pub returns-then-is_behind : goal.returns-then-is_behind
 returns-then-is_behind c =
-    let behind = c.before in
-    let read = read_of behind in
-    let way = way_of read in
-    let turn = in-loop way in
-    let head = turn.before in
-    let inv = head.loop-k.invariant in record { later_end = (omega (arith, inv.0), omega (arith, turn.loop-k-test.true), behind.is_behind.ensures.1); next_end = λ l t. ends-here _ _ _ _ _ head.loop-k.k l t _ (inv.2 l t) turn.loop-k-test.true _ _
-          (sym read.point_at.ensures ∙ behind.in-At.is) _ way.way_at.ensures
-          (sym way.is_way.ensures ∙ not-false _ read.if-not-is_way.false-raw) (sym behind.is_behind.ensures.0 ∙ c.if-is_behind.true); }
+    let inv = c.loop-k.invariant in record { later_end = (omega (arith, inv.0), omega (arith, c.loop-k-test.true), c.is_behind.ensures.1); next_end = λ l t. ends-here _ _ _ _ _ c.loop-k.k l t _ (inv.2 l t) c.loop-k-test.true _ _
+          (sym c.point_at.ensures ∙ c.in-At.is) _ c.way_at.ensures
+          (sym c.is_way.ensures ∙ not-false _ c.if-not-is_way.false-raw) (sym c.is_behind.ensures.0 ∙ c.if-is_behind.true); }
 
 pub loop-k-preserved : goal.loop-k-preserved
 loop-k-preserved c =
-    let behind = c.before in
-    let read = read_of behind in
-    let turn = in-loop (way_of read) in
-    let head = turn.before in
-    let inv = head.loop-k.invariant in (
+    let inv = c.loop-k.invariant in (
       omega (arith, inv.0),
       inv.1,
-      λ l t. ends-soon _ _ _ _ _ head.loop-k.k l t _ (inv.2 l t) turn.loop-k-test.true _ _
-          (sym read.point_at.ensures ∙ behind.in-At.is) (sym behind.is_behind.ensures.0 ∙ c.if-is_behind.false),
+      λ l t. ends-soon _ _ _ _ _ c.loop-k.k l t _ (inv.2 l t) c.loop-k-test.true _ _
+          (sym c.point_at.ensures ∙ c.in-At.is) (sym c.is_behind.ensures.0 ∙ c.if-is_behind.false),
     )
 
 pub returns : goal.returns
-returns c =
-    let head = c in record { later_end = tt; next_end = λ l t. ends-over _ _ _ _ _ head.loop-k.k l t _ (head.loop-k.invariant.2 l t) c.loop-k-test.false; }
+returns c = record { later_end = tt; next_end = λ l t. ends-over _ _ _ _ _ c.loop-k.k l t _ (c.loop-k.invariant.2 l t) c.loop-k-test.false; }

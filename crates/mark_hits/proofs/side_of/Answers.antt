@@ -9,7 +9,5 @@ pub returns-then-counts-eq0 : goal.returns-then-counts-eq0
 returns-then-counts-eq0 c = record { bigs_value = (refl, omega arith); side_of = λ l long t. side-none c.args.counts _ l long t c.if-counts-eq0.true; }
 
 pub returns : goal.returns
-returns c =
-    let most = c in
-    let wide = most in record { bigs_value = (refl, omega (arith, most.at_most.ensures)); side_of = λ l long t. side-some wide.args.counts _ l long t wide.if-counts-eq0.false _ _ _
-          wide.wide.ensures.0 most.at_most.ensures c.is_way.ensures; }
+returns c = record { bigs_value = (refl, omega (arith, c.at_most.ensures)); side_of = λ l long t. side-some c.args.counts _ l long t c.if-counts-eq0.false _ _ _
+          c.wide.ensures.0 c.at_most.ensures c.is_way.ensures; }

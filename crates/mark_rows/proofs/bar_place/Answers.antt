@@ -16,9 +16,7 @@ returns-then-bar-bars c = record { upper_bound = omega arith; all = c.loop-i.inv
 
 pub loop-i-preserved : goal.loop-i-preserved
 loop-i-preserved c =
-    let in-loop = c in
-    let head = in-loop in
-    (omega arith, below_next _ head.loop-i.i _ (omega (arith, in-loop.loop-i-test.true, head.requires.0)) head.loop-i.invariant.1 c.if-bar-bars.false)
+    (omega arith, below_next _ c.loop-i.i _ (omega (arith, c.loop-i-test.true, c.requires.0)) c.loop-i.invariant.1 c.if-bar-bars.false)
 
 pub returns : goal.returns
 returns c =

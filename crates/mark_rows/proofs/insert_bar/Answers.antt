@@ -15,29 +15,21 @@ long c = omega arith
 -- where the bar is not put aside, another one stands in its place
 other :
     (c : Joined-at-n)
-    → let found = c in
+    → let found = c.before in
     let args = found.args in
     found.bar_place-at.result < args.n → get_or args.bars.now found.bar_place-at.result 0 ≡ args.bar → ⊥
 other c h e = ⊎_elim (λ w. w.2.false e) (λ w. omega arith) c.if-at-n.branch
 
 pub start_at-start-requires : goal.start_at-start-requires
-start_at-start-requires c = let start = c.before.before in (long start, start.requires.1, start.requires.2)
+start_at-start-requires c = (long c.before, c.requires.1, c.requires.2)
 
 pub bar_place-at-requires : goal.bar_place-at-requires
 bar_place-at-requires c =
-    let begun = c in
-    (long begun.before.before.before, begun.start_at-start.ensures.upper_bound, begun.start_at-start.ensures.all)
+    (long c.before.before, c.start_at-start.ensures.upper_bound, c.start_at-start.ensures.all)
 
 pub returns-then-bars-at : goal.returns-then-bars-at
-returns-then-bars-at c =
-    let near = c in
-    let found = near in
-    let start = found in record { bars_after = inserted-none _ _ _ _ start.requires.0 found.bar_place-at.ensures.upper_bound found.bar_place-at.ensures.all.0 near.if-at-n.true c.if-bars-at.true; bars_len_unchanged = refl; n_le_count = (omega arith, omega arith, omega arith); }
+returns-then-bars-at c = record { bars_after = inserted-none _ _ _ _ c.requires.0 c.bar_place-at.ensures.upper_bound c.bar_place-at.ensures.all c.if-at-n.true c.if-bars-at.true; bars_len_unchanged = refl; n_le_count = (omega arith, omega arith, omega arith); }
 
 pub returns : goal.returns
-returns c =
-    let put = c.before.before in
-    let met = put.before.before in
-    let found = met.before in
-    let start = found.before.before.before.before.before in record { bars_after = put.put_in.ensures.bars_after
-          ∙ inserted_new _ _ _ _ start.requires.0 found.bar_place-at.ensures.upper_bound found.bar_place-at.ensures.all.0 found.bar_place-at.ensures.all.1 (other met); bars_len_unchanged = put.put_in.ensures.bars_len_unchanged; n_le_count = (omega arith, omega arith, omega arith); }
+returns c = record { bars_after = c.put_in.ensures.bars_after
+          ∙ inserted_new _ _ _ _ c.requires.0 c.bar_place-at.ensures.upper_bound c.bar_place-at.ensures.all c.bar_place-at.ensures.bar_bound (other c.before.before.before.before); bars_len_unchanged = c.put_in.ensures.bars_len_unchanged; n_le_count = (omega arith, omega arith, omega arith); }

@@ -14,18 +14,14 @@ pub loop-i-init : goal.loop-i-init
 loop-i-init c = (omega arith, omega arith)
 
 pub returns-then-keys-i : goal.returns-then-keys-i
-returns-then-keys-i c =
-    let in-loop = c in
-    let head = in-loop in record { upper_bound = omega arith; value = place_here _ _ head.loop-i.i _ _ head.requires head.loop-i.invariant.1 _ in-loop.loop-i-test.true (eq-eqb _ _ c.if-keys-i.true); }
+returns-then-keys-i c = record { upper_bound = omega arith; value = place_here _ _ c.loop-i.i _ _ c.requires c.loop-i.invariant.1 _ c.loop-i-test.true (eq-eqb _ _ c.if-keys-i.true); }
 
 pub loop-i-preserved : goal.loop-i-preserved
 loop-i-preserved c =
-    let in-loop = c in
-    let head = in-loop in (
+    (
       omega arith,
-      place-pass _ _ head.loop-i.i _ _ head.requires head.loop-i.invariant.1 _ in-loop.loop-i-test.true (ne_eqb _ _ c.if-keys-i.false),
+      place-pass _ _ c.loop-i.i _ _ c.requires c.loop-i.invariant.1 _ c.loop-i-test.true (ne_eqb _ _ c.if-keys-i.false),
     )
 
 pub returns : goal.returns
-returns c =
-    let head = c in record { upper_bound = omega arith; value = place_none _ _ head.loop-i.i _ _ head.requires head.loop-i.invariant.1 c.loop-i-test.false head.loop-i.invariant.0; }
+returns c = record { upper_bound = omega arith; value = place_none _ _ c.loop-i.i _ _ c.requires c.loop-i.invariant.1 c.loop-i-test.false c.loop-i.invariant.0; }

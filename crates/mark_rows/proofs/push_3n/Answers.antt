@@ -3,9 +3,7 @@ use borrow.Author.Rules.{rules}
 use Rattle.mark_rows.proofs.push_3n.Goals as goal
 
 pub put_row-requires : goal.put_row-requires
-put_row-requires c =
-    let found = c in record { n_bound = found.requires; i_value = found.place_of-i.ensures.value; }
+put_row-requires c = record { n_bound = c.requires; i_value = c.place_of-i.ensures.value; }
 
--- CONVERT clauses ['pushes', 'keeps_room', 'grown']
 pub returns : goal.returns
-returns c = c.put_row.ensures
+returns c = let whole = c.put_row.ensures in record { pushes = whole.0; keeps_room = whole.1.0; grown = whole.1.1; }

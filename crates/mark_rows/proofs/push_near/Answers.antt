@@ -10,9 +10,7 @@ place_near-place-requires c =
 
 pub put_row-count-requires : goal.put_row-count-requires
 put_row-count-requires c =
-    let found = c in
-    let pre = found.requires in record { n_bound = (pre.0, pre.1, pre.2); i_value = found.place_near-place.ensures; }
+    let pre = c.requires in record { n_bound = (pre.0, pre.1, pre.2); i_value = c.place_near-place.ensures; }
 
--- CONVERT clauses ['pushes', 'keeps_room', 'grown']
 pub returns : goal.returns
-returns c = c.put_row-count.ensures
+returns c = let whole = c.put_row-count.ensures in record { pushes = whole.0; keeps_room = whole.1.0; grown = whole.1.1; }

@@ -13,11 +13,10 @@ loop-i-init c = (search rules, refl, refl)
 
 pub loop-i-preserved : goal.loop-i-preserved
 loop-i-preserved c =
-    let head = c in
-    let inv = head.loop-i.invariant in (
+    let inv = c.loop-i.invariant in (
       omega arith,
       simp length-set inv.1,
-      put_next _ _ head.loop-i.i _ _ (omega (arith, inv, head.requires)) inv.2 0 c.loop-i-test.true,
+      put_next _ _ c.loop-i.i _ _ (omega (arith, inv, c.requires)) inv.2 0 c.loop-i-test.true,
     )
 
 pub shape_of-bars : goal.shape_of-bars
@@ -25,5 +24,4 @@ shape_of-bars c = simp length-set c.loop-i.invariant.1
 
 pub returns : goal.returns
 returns c =
-    let head = c in
-    let inv = head.loop-i.invariant in record { bars_after = put_last _ _ head.loop-i.i _ _ (omega (arith, inv, head.requires)) inv.2 c.loop-i-test.false inv.0; bars_len_unchanged = simp length-set inv.1; }
+    let inv = c.loop-i.invariant in record { bars_after = put_last _ _ c.loop-i.i _ _ (omega (arith, inv, c.requires)) inv.2 c.loop-i-test.false inv.0; bars_len_unchanged = simp length-set inv.1; }

@@ -10,8 +10,7 @@ returns-then-bar-bars c = record { upper_bound = omega arith; all = nil; }
 
 pub returns-else-bar-bars : goal.returns-else-bar-bars
 returns-else-bar-bars c =
-    let some = c in
-    let pre = some.requires in record { upper_bound = omega arith; all = below-hint _ _ _ _ pre.0 pre.1 pre.2 some.if-from-gt0.true (omega (arith, c.if-bar-bars.false)); }
+    let pre = c.requires in record { upper_bound = omega arith; all = below-hint _ _ _ _ pre.0 pre.1 pre.2 c.if-from-gt0.true (omega (arith, c.if-bar-bars.false)); }
 
 pub returns-else-from-gt0 : goal.returns-else-from-gt0
 returns-else-from-gt0 c =

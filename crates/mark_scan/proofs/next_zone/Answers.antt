@@ -10,21 +10,16 @@ loop-i-init c = (omega arith, zones-first _ _ _ _)
 
 pub loop-i-preserved : goal.loop-i-preserved
 loop-i-preserved c =
-    let at_call = c in
-    let in-loop = at_call in
-    let head = in-loop in
-    let got = at_call.bars_behind-more.ensures in (
+    let got = c.bars_behind-more.ensures in (
       omega arith,
       rw c.fewer-least.ensures
-          (zones-next _ _ _ _ head.loop-i.least _ head.loop-i.i in-loop.loop-i-test.true got.1.0 got.1.1 got.0 head.loop-i.invariant.1),
+          (zones-next _ _ _ _ c.loop-i.least _ c.loop-i.i c.loop-i-test.true got.e_bound.0 got.e_bound.1 got.value c.loop-i.invariant.1),
     )
 
 pub returns-then-least-e : goal.returns-then-least-e
 returns-then-least-e c =
-    let head = c in
-    zones-least _ _ _ _ head.loop-i.least head.loop-i.i c.loop-i-test.false head.loop-i.invariant.1
+    zones-least _ _ _ _ c.loop-i.least c.loop-i.i c.loop-i-test.false c.loop-i.invariant.1
 
 pub returns : goal.returns
 returns c =
-    let head = c in
-    zones-none _ _ _ _ head.loop-i.least head.loop-i.i c.loop-i-test.false c.if-least-e.false head.loop-i.invariant.1
+    zones-none _ _ _ _ c.loop-i.least c.loop-i.i c.loop-i-test.false c.if-least-e.false c.loop-i.invariant.1

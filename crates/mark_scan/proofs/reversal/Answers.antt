@@ -18,18 +18,11 @@ overflow_cast-result c = record { fits = omega (arith, c.turns.ensures.1) }
 
 pub returns-then-turns : goal.returns-then-turns
 returns-then-turns c =
-    let test = c in
-    let at_call = test in
-    let in-loop = at_call in
-    let head = in-loop in
-    λ l t. reversal-here _ _ _ _ head.loop-i.i _ l t (head.loop-i.invariant l t) in-loop.loop-i-test.true _ at_call.turns.ensures.0 test.if-turns.true
+    λ l t. reversal-here _ _ _ _ c.loop-i.i _ l t (c.loop-i.invariant l t) c.loop-i-test.true _ c.turns.ensures.0 c.if-turns.true
 
 pub loop-i-preserved : goal.loop-i-preserved
 loop-i-preserved c =
-    let at_call = c in
-    let in-loop = at_call in
-    let head = in-loop in
-    λ l t. reversal-pass _ _ _ _ head.loop-i.i _ l t (head.loop-i.invariant l t) in-loop.loop-i-test.true _ at_call.turns.ensures.0 c.if-turns.false
+    λ l t. reversal-pass _ _ _ _ c.loop-i.i _ l t (c.loop-i.invariant l t) c.loop-i-test.true _ c.turns.ensures.0 c.if-turns.false
 
 pub returns : goal.returns
 returns c = λ l t. reversal-none _ _ _ _ c.loop-i.i _ l t (c.loop-i.invariant l t) c.loop-i-test.false

@@ -13,16 +13,12 @@ loop-i-init c = (omega arith, c.requires.2, λ j h. absurd (omega arith))
 
 pub loop-i-preserved : goal.loop-i-preserved
 loop-i-preserved c =
-    let test = c in
-    let head = test in
-    let start = head in
-    let inv = head.loop-i.invariant in (
-      omega (arith, test.loop-i-test.true),
+    let inv = c.loop-i.invariant in (
+      omega (arith, c.loop-i-test.true),
       simp length-set inv.1,
-      scans-next _ _ _ _ _ head.loop-i.scans head.loop-i.i inv.2 _ (omega (arith, inv.1, test.loop-i-test.true, start.requires.0.zones)) c.scan_of.ensures,
+      scans-next _ _ _ _ _ c.loop-i.scans c.loop-i.i inv.2 _ (omega (arith, inv.1, c.loop-i-test.true, c.requires.0.zones)) c.scan_of.ensures,
     )
 
 pub returns : goal.returns
 returns c =
-    let head = c in
-    let inv = head.loop-i.invariant in record { scans_len = inv.1; scanned = scans-all _ _ _ _ _ head.loop-i.scans head.loop-i.i inv.2 c.loop-i-test.false; }
+    let inv = c.loop-i.invariant in record { scans_len = inv.1; scanned = scans-all _ _ _ _ _ c.loop-i.scans c.loop-i.i inv.2 c.loop-i-test.false; }

@@ -20,13 +20,10 @@ returns-then-from-first c = inl refl
 
 pub returns-else-from-first : goal.returns-else-from-first
 returns-else-from-first c =
-    let ends = c in
-    let owners = ends in
-    let first = owners in
     inr (record {
-      not_first = omega (arith, first.if-at-eq0.false);
-      same = owners.if-zb-i.false;
-      later = ends.if-zb-at.false;
+      not_first = omega (arith, c.if-at-eq0.false);
+      same = c.if-zb-i.false;
+      later = c.if-zb-at.false;
       start = ap (λ (s : Scan). s.from) c.scan_at-from.ensures;
       inside = c.if-from-first.false;
     })

@@ -22,34 +22,21 @@ loop-k-init c = (omega (arith, c.at_most-end.ensures), c.requires.0, omega (arit
 
 pub loop-k-preserved-in_default : goal.loop-k-preserved-in_default
 loop-k-preserved-in_default c =
-    let read = c.before.before in
-    let turn = read.before in
-    let head = turn.before in
-    let inv = head.loop-k.invariant in
-    let missing = sym read.range_at.ensures ∙ c.in_default.is in
-    (inv.0, inv.1, inv.2, λ l t. start-missing _ _ _ _ _ head.loop-k.k l t _ (inv.3 l t) (within turn).0 (within turn).1 missing)
+    let inv = c.loop-k.invariant in
+    let missing = sym c.range_at.ensures ∙ c.in_default.is in
+    (inv.0, inv.1, inv.2, λ l t. start-missing _ _ _ _ _ c.loop-k.k l t _ (inv.3 l t) (within c.before.before.before).0 (within c.before.before.before).1 missing)
 
 pub returns-then-e-span : goal.returns-then-e-span
 returns-then-e-span c =
-    let span = c.before.before.before in
-    let read = span.before.before in
-    let turn = read.before in
-    let head = turn.before in
-    let inv = head.loop-k.invariant in
-    let found = sym read.range_at.ensures ∙ span.in-Found.is in record { upper_bound = omega (arith, (within turn).1); starts_at = λ l t. start-here _ _ _ _ _ head.loop-k.k l t _ (inv.3 l t) (within turn).0 (within turn).1 _ found c.if-e-span.true; }
+    let inv = c.loop-k.invariant in
+    let found = sym c.range_at.ensures ∙ c.in-Found.is in record { upper_bound = omega (arith, (within c.before.before.before.before.before.before).1); starts_at = λ l t. start-here _ _ _ _ _ c.loop-k.k l t _ (inv.3 l t) (within c.before.before.before.before.before.before).0 (within c.before.before.before.before.before.before).1 _ found c.if-e-span.true; }
 
 pub loop-k-preserved : goal.loop-k-preserved
 loop-k-preserved c =
-    let span = c.before.before.before in
-    let read = span.before.before in
-    let turn = read.before in
-    let head = turn.before in
-    let inv = head.loop-k.invariant in
-    let found = sym read.range_at.ensures ∙ span.in-Found.is in
-    (inv.0, inv.1, inv.2, λ l t. start-pass _ _ _ _ _ head.loop-k.k l t _ (inv.3 l t) (within turn).0 (within turn).1 _ found c.if-e-span.false)
+    let inv = c.loop-k.invariant in
+    let found = sym c.range_at.ensures ∙ c.in-Found.is in
+    (inv.0, inv.1, inv.2, λ l t. start-pass _ _ _ _ _ c.loop-k.k l t _ (inv.3 l t) (within c.before.before.before.before.before.before).0 (within c.before.before.before.before.before.before).1 _ found c.if-e-span.false)
 
 pub returns : goal.returns
 returns c =
-    let after = c in
-    let head = after in
-    let inv = head.loop-k.invariant in record { upper_bound = omega (arith, c.at_most.ensures); starts_at = λ l t. start_none _ _ _ _ _ head.loop-k.k l t _ (inv.3 l t) _ _ head.at_most-end.ensures after.loop-k-test.false c.at_most.ensures; }
+    let inv = c.loop-k.invariant in record { upper_bound = omega (arith, c.at_most.ensures); starts_at = λ l t. start_none _ _ _ _ _ c.loop-k.k l t _ (inv.3 l t) _ _ c.at_most-end.ensures c.loop-k-test.false c.at_most.ensures; }

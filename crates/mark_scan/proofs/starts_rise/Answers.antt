@@ -17,15 +17,14 @@ loop-i-init c = (omega arith, λ good j k h w. absurd (omega arith))
 
 pub loop-i-preserved : goal.loop-i-preserved
 loop-i-preserved c =
-    let head = c in
-    let rise = head.loop-i.rise in
-    let last = head.loop-i.last in
-    let i = head.loop-i.i in
-    let zb = head.args.zb.now in (
+    let rise = c.loop-i.rise in
+    let last = c.loop-i.last in
+    let i = c.loop-i.i in
+    let zb = c.args.zb.now in (
       omega arith,
       λ good.
           risen_next zb i last (leb-true _ _ (and_r rise (leb last (get_or (get_or zb i []) 1 0)) good))
-          (head.loop-i.invariant.1 (and_l rise (leb last (get_or (get_or zb i []) 1 0)) good)),
+          (c.loop-i.invariant.1 (and_l rise (leb last (get_or (get_or zb i []) 1 0)) good)),
     )
 
 pub returns : goal.returns

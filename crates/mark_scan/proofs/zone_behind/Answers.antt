@@ -14,19 +14,12 @@ overflow_cast-result c = record { fits = omega (arith, c.is_next.ensures.1) }
 
 pub returns-then-is_next : goal.returns-then-is_next
 returns-then-is_next c =
-    let test = c in
-    let at_call = test in
-    let in-loop = at_call in
-    let head = in-loop in
-    behind_here _ _ _ _ head.args.from head.loop-i.i head.loop-i.invariant in-loop.loop-i-test.true _
-    at_call.is_next.ensures.0 head.requires.1 test.if-is_next.true
+    behind_here _ _ _ _ c.args.from c.loop-i.i c.loop-i.invariant c.loop-i-test.true _
+    c.is_next.ensures.0 c.requires.1 c.if-is_next.true
 
 pub loop-i-preserved : goal.loop-i-preserved
 loop-i-preserved c =
-    let at_call = c in
-    let in-loop = at_call in
-    let head = in-loop in
-    behind-pass _ _ _ _ head.args.from head.loop-i.i head.loop-i.invariant in-loop.loop-i-test.true _ at_call.is_next.ensures.0 c.if-is_next.false
+    behind-pass _ _ _ _ c.args.from c.loop-i.i c.loop-i.invariant c.loop-i-test.true _ c.is_next.ensures.0 c.if-is_next.false
 
 pub returns : goal.returns
 returns c = behind-none _ _ _ _ c.args.from c.loop-i.i c.loop-i.invariant c.loop-i-test.false

@@ -10,12 +10,11 @@ abbrev start : Then-zb-at → Start
 start c = c.before.before.before.before.before
 
 rises : (c : Then-zb-at) → StartsRise (start c).args.n (start c).args.zb.now
-rises c = (start c).requires.2 c.if-rise.true
+rises c = c.requires.2 c.if-rise.true
 
 pub zone_behind-requires : goal.zone_behind-requires
-zone_behind-requires c = ((start c).requires.1, rises c)
+zone_behind-requires c = (c.requires.1, rises c)
 
 pub returns-then-zb-at : goal.returns-then-zb-at
 returns-then-zb-at c =
-    let then = c.before in
-    behind-all _ _ _ _ (start then).args.at _ (rises then) (start then).requires.0 then.if-zb-at.true c.zone_behind.ensures
+    behind-all _ _ _ _ c.args.at _ (rises c.before) c.requires.0 c.if-zb-at.true c.zone_behind.ensures

@@ -3,41 +3,29 @@
 use Prim.Native.Nat.{◌-◌}
 use borrow.Author.Rules.{rules}
 use Rattle.mark_superiors.proofs.SuperiorBars.{ZonesSoFar, taken-first, taken-over, taken-other, taken_next}
-use Rattle.mark_superiors.proofs.superior_bars.Goals.{After-scan_at-scan, At-loop-i, Start}
 use Rattle.mark_superiors.proofs.superior_bars.Goals as goal
-
--- the places of the code that the proof goes back to
-abbrev head : After-scan_at-scan → At-loop-i
-head c = c.before.before.before
-
-abbrev begun : At-loop-i → Start
-begun c = c.before.before
 
 pub loop-i-init : goal.loop-i-init
 loop-i-init c = taken-first _ _ _ _ _ _ _ c.requires.fits.1
 
 pub scan_at-scan-requires : goal.scan_at-scan-requires
 scan_at-scan-requires c =
-    let few = (begun c.before.before).requires.fits.0.zones in
+    let few = c.requires.fits.0.zones in
     search rules
 
 pub returns-then-scan-h : goal.returns-then-scan-h
 returns-then-scan-h c =
-    let read = c.before.before in
-    let inv = (head read).loop-i.invariant in record { count_bound = (inv.low, inv.wide); takes_block = taken-other _ _ _ _ _ _ _ _ _ inv _ read.scan_at-scan.ensures c.if-scan-h.true; }
+    let inv = c.loop-i.invariant in record { count_bound = (inv.low, inv.wide); takes_block = taken-other _ _ _ _ _ _ _ _ _ inv _ c.scan_at-scan.ensures c.if-scan-h.true; }
 
 pub zone_bars-count-requires : goal.zone_bars-count-requires
 zone_bars-count-requires c =
-    let here = head c.before.before.before in
-    let pre = (begun here).requires in
-    let inv = here.loop-i.invariant in record { m_bound = (pre.0.0.bigs, inv.wide, inv.low); bigs = (pre.1.0, pre.1.2.bigs, inv.among pre.1.0 pre.1.1 pre.1.2 pre.1.3); }
+    let pre = c.requires in
+    let inv = c.loop-i.invariant in record { m_bound = (pre.0.0.bigs, inv.wide, inv.low); bigs = (pre.1.0, pre.1.2.bigs, inv.among pre.1.0 pre.1.1 pre.1.2 pre.1.3); }
 
 pub loop-i-preserved : goal.loop-i-preserved
 loop-i-preserved c =
     let met = c.zone_bars-count in
-    let own = c.before.before.before.before in
-    let read = own.before.before in
-    taken_next _ _ _ _ _ _ _ _ _ (head read).loop-i.invariant _ read.scan_at-scan.ensures read.loop-i-test.true own.if-scan-h.false
+    taken_next _ _ _ _ _ _ _ _ _ c.loop-i.invariant _ c.scan_at-scan.ensures c.loop-i-test.true c.if-scan-h.false
     _ _ met.ensures.1 met.ensures.0.0 met.ensures.0.1
 
 pub returns : goal.returns

@@ -14,9 +14,6 @@ use Rattle.mark_superiors.proofs.superior_rows.Goals as goal
 abbrev begun : At-loop-i → Start
 begun c = c.before.before.before
 
-abbrev turn : After-superior_bars-taken → In-loop-i
-turn c = c.before.before
-
 abbrev head : In-loop-i → At-loop-i
 head c = c.before.before
 
@@ -35,37 +32,33 @@ loop-i-init c = numbered-first _ _ _ _ _ _ _ _ _ refl
 
 pub superior_bars-taken-requires : goal.superior_bars-taken-requires
 superior_bars-taken-requires c =
-    let here = head c.before in
-    let pre = (begun here).requires in
-    let chart = pre.1 in record { fits = (pre.0.0, here.loop-i.invariant.wide); by_index = (chart.0, _, chart.1, room_among _ _ _ chart.2); }
+    let pre = c.requires in
+    let chart = pre.1 in record { fits = (pre.0.0, c.loop-i.invariant.wide); by_index = (chart.0, _, chart.1, room_among _ _ _ chart.2); }
 
 pub number_bars-count-requires : goal.number_bars-count-requires
 number_bars-count-requires c =
-    let met = c.before.before.before.before.before in
-    let here = head (turn met) in
-    let pre = (begun here).requires in
-    let inv = here.loop-i.invariant in
-    let block = met.superior_bars-taken.result in
-    let got = met.superior_bars-taken.ensures in record { k_in_bounds = (
-        omega (arith, got.0),
-        omega (arith, got.0),
+    let pre = c.requires in
+    let inv = c.loop-i.invariant in
+    let block = c.superior_bars-taken.result in
+    let got = c.superior_bars-taken.ensures in record { k_in_bounds = (
+        omega (arith, got.count_bound),
+        omega (arith, got.count_bound),
         omega (arith, inv.grown.more),
         omega (arith, inv.grown.long, pre.0.1),
         omega (arith, inv.grown.wide, pre.0.2),
       ); by_index = (
         _,
         inv.room pre.1.0 pre.1.1 pre.1.2,
-        bars-there _ _ _ _ _ _ _ _ _ _ _ _ _ _ inv (turn met).loop-i-test.true block.count block.next (bars-of met) got.1 pre.1.0 pre.1.1,
+        bars-there _ _ _ _ _ _ _ _ _ _ _ _ _ _ inv c.loop-i-test.true block.count block.next (bars-of c.before.before.before.before.before) got.takes_block pre.1.0 pre.1.1,
       ); }
 
 pub loop-i-preserved : goal.loop-i-preserved
 loop-i-preserved c =
     let rows = c.number_bars-count.ensures in
-    let met = c.before.before.before.before.before.before.before.before.before.before in
-    let block = met.superior_bars-taken.result in
-    let got = met.superior_bars-taken.ensures in
-    numbered_next _ _ _ _ _ _ _ _ _ _ _ _ _ _ (head (turn met)).loop-i.invariant (turn met).loop-i-test.true block.count block.next (bars-of met)
-    got.1 _ _ _ _ got.0.1 rows.0 rows.1.0 rows.1.1 refl
+    let block = c.superior_bars-taken.result in
+    let got = c.superior_bars-taken.ensures in
+    numbered_next _ _ _ _ _ _ _ _ _ _ _ _ _ _ c.loop-i.invariant c.loop-i-test.true block.count block.next (bars-of c.before.before.before.before.before.before.before.before.before.before)
+    got.takes_block _ _ _ _ got.count_bound.1 rows.numbers_bars rows.keeps_room rows.grown refl
 
 pub returns : goal.returns
 returns c =

@@ -17,7 +17,7 @@ use Rattle.mark_thirds.proofs.anchor_hit.Goals.{At-loop-k, Start}
 use Rattle.mark_thirds.proofs.anchor_hit.Goals as goal
 
 abbrev start : At-loop-k → Start
-start head = head.before.before.before
+start c = c.before.before.before
 
 -- the test of a hit
 abbrev beat : At-loop-k → ℕ → Bool
@@ -29,38 +29,24 @@ pub loop-k-init : goal.loop-k-init
 loop-k-init c = λ l t. refl
 
 pub returns-in_default : goal.returns-in_default
-returns-in_default c =
-    let found = c.before.before in
-    let head = found.before.before.before.before in record { lent_price = tt; anchor_hit = λ l t. hits-over (beat head) _ _ (head.loop-k.invariant l t)
-          (bars-over l (start head).args.side.buy _ head.loop-k.k found.next_end-end.result (found.next_end-end.ensures.next_end l t) c.in_default.is); }
+returns-in_default c = record { lent_price = tt; anchor_hit = λ l t. hits-over (beat c.before.before.before.before.before.before) _ _ (c.loop-k.invariant l t)
+          (bars-over l c.args.side.buy _ c.loop-k.k c.next_end-end.result (c.next_end-end.ensures.next_end l t) c.in_default.is); }
 
 pub returns-then-is_hit : goal.returns-then-is_hit
-returns-then-is_hit c =
-    let tried = c.before.before in
-    let told = tried.before.before in
-    let found = told.before.before in
-    let head = found.before.before.before.before in record { lent_price = tried.hit_at-hit.ensures.lent_price; anchor_hit = λ l t. hit-first (beat head) _ _ (head.loop-k.invariant l t) _ _
-          (bars-next l (start head).args.side.buy _ head.loop-k.k found.next_end-end.result (found.next_end-end.ensures.next_end l t) _ _ _ told.in-At.is)
-          tried.hit_at-hit.result tried.hit_at-hit.ensures.bar_value _ c.is_hit.ensures c.if-is_hit.true; }
+returns-then-is_hit c = record { lent_price = c.hit_at-hit.ensures.lent_price; anchor_hit = λ l t. hit-first (beat c.before.before.before.before.before.before.before.before.before.before) _ _ (c.loop-k.invariant l t) _ _
+          (bars-next l c.args.side.buy _ c.loop-k.k c.next_end-end.result (c.next_end-end.ensures.next_end l t) _ _ _ c.in-At.is)
+          c.hit_at-hit.result c.hit_at-hit.ensures.bar_value _ c.is_hit.ensures c.if-is_hit.true; }
 
 pub loop-k-smaller : goal.loop-k-smaller
 loop-k-smaller c =
-    let told = c in
-    let found = told in
-    let head = found in
-    let later = end_later head.loop-k.k _ found.next_end-end.result _ _ _ found.next_end-end.ensures.later_end told.in-At.is in
+    let later = end_later c.loop-k.k _ c.next_end-end.result _ _ _ c.next_end-end.ensures.later_end c.in-At.is in
     omega (arith, later.0, later.1)
 
 pub loop-k-preserved : goal.loop-k-preserved
 loop-k-preserved c =
-    let tried = c.before.before in
-    let told = tried.before.before in
-    let found = told.before.before in
-    let head = found.before.before.before.before in
-    λ l t. hit_later (beat head) _ _ (head.loop-k.invariant l t) _ _
-    (bars-next l (start head).args.side.buy _ head.loop-k.k found.next_end-end.result (found.next_end-end.ensures.next_end l t) _ _ _ told.in-At.is)
-    tried.hit_at-hit.result tried.hit_at-hit.ensures.bar_value _ c.is_hit.ensures c.if-is_hit.false
+    λ l t. hit_later (beat c.before.before.before.before.before.before.before.before.before.before) _ _ (c.loop-k.invariant l t) _ _
+    (bars-next l c.args.side.buy _ c.loop-k.k c.next_end-end.result (c.next_end-end.ensures.next_end l t) _ _ _ c.in-At.is)
+    c.hit_at-hit.result c.hit_at-hit.ensures.bar_value _ c.is_hit.ensures c.if-is_hit.false
 
 pub returns : goal.returns
-returns c =
-    let head = c.before.before in record { lent_price = tt; anchor_hit = λ l t. hits-over (beat head) _ _ (head.loop-k.invariant l t) (bars-none l (start head).args.side.buy _ head.loop-k.k _ _ _ t c.loop-k-test.false); }
+returns c = record { lent_price = tt; anchor_hit = λ l t. hits-over (beat c.before.before) _ _ (c.loop-k.invariant l t) (bars-none l c.args.side.buy _ c.loop-k.k _ _ _ t c.loop-k-test.false); }

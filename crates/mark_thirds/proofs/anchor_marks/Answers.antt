@@ -22,7 +22,7 @@ use Rattle.mark_thirds.proofs.anchor_marks.Goals.{At-loop-i, Start}
 use Rattle.mark_thirds.proofs.anchor_marks.Goals as goal
 
 abbrev start : At-loop-i → Start
-start head = head.before.before.before.before.before.before.before
+start c = c.before.before.before.before.before.before.before
 
 abbrev quotes : At-loop-i → Quotes
 quotes head = record { highs = (start head).args.highs.now; lows = (start head).args.lows.now }
@@ -32,74 +32,60 @@ side head = (start head).args.side
 
 pub loop-i-init : goal.loop-i-init
 loop-i-init c =
-    let begun = c in
-    (omega arith, omega arith, omega arith, refl, begun.requires.highs_len_bound.2.1, λ l f t w. w)
+    (omega arith, omega arith, omega arith, refl, c.requires.highs_len_bound.2.1, λ l f t w. w)
 
 pub loop-i-preserved-in_default : goal.loop-i-preserved-in_default
 loop-i-preserved-in_default c =
-    let at = c.before.before in
-    let turn = at.before.before.before in
-    let head = turn.before in
-    let i = head.loop-i.i in
-    let inv = head.loop-i.invariant in
-    let more = turn.loop-i-test.true in (
+    let i = c.loop-i.i in
+    let inv = c.loop-i.invariant in
+    let more = c.loop-i-test.true in (
       omega (arith, more),
       inv.1,
       omega (arith, inv.2),
       inv.3,
       inv.4,
       λ l f t w.
-          let table = head.anchors_of-n.ensures.anchors_of l t in
-          let here = anchor_here l (side head).buy _ _ _ _ table i more _ at.anchor_at-anchor.ensures in
-          marked_next (anchor_third l (quotes head) (side head).buy) _ _ _ _ f (anchors_in l (side head)) i no_stroke [] (omega (arith, more, table.count))
-          (anchor-nowhere l (quotes head) (side head).buy _ at.anchor_at-anchor.result here c.in_default.is)
+          let table = c.anchors_of-n.ensures.anchors_of l t in
+          let here = anchor_here l (side c.before.before.before.before.before.before).buy _ _ _ _ table i more _ c.anchor_at-anchor.ensures in
+          marked_next (anchor_third l (quotes c.before.before.before.before.before.before) (side c.before.before.before.before.before.before).buy) _ _ _ _ f (anchors_in l (side c.before.before.before.before.before.before)) i no_stroke [] (omega (arith, more, table.count))
+          (anchor-nowhere l (quotes c.before.before.before.before.before.before) (side c.before.before.before.before.before.before).buy _ c.anchor_at-anchor.result here c.in_default.is)
           (inv.5 l f t w),
     )
 
 pub put_hit-count-requires : goal.put_hit-count-requires
 put_hit-count-requires c =
-    let at-hit = c.before.before in
-    let turn = at-hit.before.before.before.before.before.before.before in
-    let head = turn.before in
-    let pre = (start head).requires in
-    let inv = head.loop-i.invariant in (
-      omega (arith, inv.2, turn.loop-i-test.true, head.anchors_of-n.ensures.upper_bound, pre.0),
+    let pre = c.requires in
+    let inv = c.loop-i.invariant in (
+      omega (arith, inv.2, c.loop-i-test.true, c.anchors_of-n.ensures.upper_bound, pre.0),
       (omega (arith, inv.3, pre.1.2.0), inv.4),
-      hit_on_bar (quotes head) (side head).buy at-hit.anchor_hit-hit.result at-hit.anchor_hit-hit.ensures.lent_price pre.1.0 pre.1.1,
+      hit_on_bar (quotes c.before.before.before.before.before.before.before.before.before.before) (side c.before.before.before.before.before.before.before.before.before.before).buy c.anchor_hit-hit.result c.anchor_hit-hit.ensures.lent_price pre.1.0 pre.1.1,
     )
 
 pub loop-i-preserved : goal.loop-i-preserved
 loop-i-preserved c =
-    let at-put = c.before.before in
-    let at-hit = at-put.before.before.before in
-    let told = at-hit.before.before in
-    let at = told.before.before in
-    let turn = at.before.before.before in
-    let head = turn.before in
-    let i = head.loop-i.i in
-    let inv = head.loop-i.invariant in
-    let more = turn.loop-i-test.true in
-    let kept = at-put.put_hit-count.ensures.one_more in (
+    let i = c.loop-i.i in
+    let inv = c.loop-i.invariant in
+    let more = c.loop-i-test.true in
+    let kept = c.put_hit-count.ensures.one_more in (
       omega (arith, more),
       omega (arith, inv.1, kept.0.0),
       omega (arith, inv.2, kept.0.1),
       kept.1.0 ∙ inv.3,
       kept.1.1,
       λ l f t w.
-          let table = head.anchors_of-n.ensures.anchors_of l t in
-          let here = anchor_here l (side head).buy _ _ _ _ table i more _ at.anchor_at-anchor.ensures in
-          marked_next (anchor_third l (quotes head) (side head).buy) _ _ _ _ f (anchors_in l (side head)) i no_stroke _ (omega (arith, more, table.count))
-          (anchor-is l (quotes head) (side head).buy _ at.anchor_at-anchor.result here _ told.in-At.is _
-          (le-ltb head.loop-i.count (start head).args.found inv.1)
-          at-hit.anchor_hit-hit.result (at-hit.anchor_hit-hit.ensures.anchor_hit l t) at-hit.anchor_hit-hit.ensures.lent_price)
-          (at-put.put_hit-count.ensures.puts_hit (start head).args.found _ (inv.5 l f t w)),
+          let table = c.anchors_of-n.ensures.anchors_of l t in
+          let here = anchor_here l (side c.before.before.before.before.before.before.before.before.before.before.before.before.before).buy _ _ _ _ table i more _ c.anchor_at-anchor.ensures in
+          marked_next (anchor_third l (quotes c.before.before.before.before.before.before.before.before.before.before.before.before.before) (side c.before.before.before.before.before.before.before.before.before.before.before.before.before).buy) _ _ _ _ f (anchors_in l (side c.before.before.before.before.before.before.before.before.before.before.before.before.before)) i no_stroke _ (omega (arith, more, table.count))
+          (anchor-is l (quotes c.before.before.before.before.before.before.before.before.before.before.before.before.before) (side c.before.before.before.before.before.before.before.before.before.before.before.before.before).buy _ c.anchor_at-anchor.result here _ c.in-At.is _
+          (le-ltb c.loop-i.count c.args.found inv.1)
+          c.anchor_hit-hit.result (c.anchor_hit-hit.ensures.anchor_hit l t) c.anchor_hit-hit.ensures.lent_price)
+          (c.put_hit-count.ensures.puts_hit c.args.found _ (inv.5 l f t w)),
     )
 
 pub returns : goal.returns
 returns c =
-    let head = c.before in
-    let inv = head.loop-i.invariant in
-    let few = head.anchors_of-n.ensures.upper_bound in record { lower_bound = (inv.1, omega (arith, inv.0, inv.2, few, (start head).requires.found_bound), (inv.3, inv.4)); anchor_marks = λ l f t w.
-          let table = head.anchors_of-n.ensures.anchors_of l t in
-          marked_all (anchor_third l (quotes head) (side head).buy) _ _ _ _ f (anchors_in l (side head)) head.loop-i.i
+    let inv = c.loop-i.invariant in
+    let few = c.anchors_of-n.ensures.upper_bound in record { lower_bound = (inv.1, omega (arith, inv.0, inv.2, few, c.requires.found_bound), (inv.3, inv.4)); anchor_marks = λ l f t w.
+          let table = c.anchors_of-n.ensures.anchors_of l t in
+          marked_all (anchor_third l (quotes c.before) (side c.before).buy) _ _ _ _ f (anchors_in l (side c.before)) c.loop-i.i
           (omega (arith, c.loop-i-test.false, table.count)) (inv.5 l f t w); }

@@ -15,17 +15,14 @@ loop-i-init c = (omega arith, refl)
 
 pub loop-i-preserved : goal.loop-i-preserved
 loop-i-preserved c =
-    let in-loop = c in
-    let head = in-loop in
-    let args = head.args in (
+    let args = c.args in (
       omega arith,
-      met-more (λ (k : ℕ). eqb k args.key) _ head.loop-i.i args.keys.now head.loop-i.met _ head.requires
-          head.loop-i.invariant.1 0 in-loop.loop-i-test.true,
+      met-more (λ (k : ℕ). eqb k args.key) _ c.loop-i.i args.keys.now c.loop-i.met _ c.requires
+          c.loop-i.invariant.1 0 c.loop-i-test.true,
     )
 
 pub returns : goal.returns
 returns c =
-    let head = c in
-    let args = head.args in
-    met-none (λ (k : ℕ). eqb k args.key) _ head.loop-i.i args.keys.now head.loop-i.met _ head.requires
-    head.loop-i.invariant.1 c.loop-i-test.false
+    let args = c.args in
+    met-none (λ (k : ℕ). eqb k args.key) _ c.loop-i.i args.keys.now c.loop-i.met _ c.requires
+    c.loop-i.invariant.1 c.loop-i-test.false

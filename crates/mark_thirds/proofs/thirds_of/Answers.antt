@@ -20,7 +20,7 @@ use Rattle.mark_thirds.proofs.thirds_of.Goals.{At-loop-i, Start}
 use Rattle.mark_thirds.proofs.thirds_of.Goals as goal
 
 abbrev start : At-loop-i → Start
-start head = head.before.before.before.before
+start c = c.before.before.before.before
 
 abbrev quotes : At-loop-i → Quotes
 quotes head = record { highs = (start head).args.highs.now; lows = (start head).args.lows.now }
@@ -30,52 +30,38 @@ loop-i-init c = (omega arith, omega arith, refl, c.requires.3.1, λ l zb t s. ma
 
 pub put_hit-zoned-requires : goal.put_hit-zoned-requires
 put_hit-zoned-requires c =
-    let at-hit = c.before.before.before in
-    let turned = at-hit.before.before.before.before in
-    let turn = turned.before in
-    let head = turn.before.before in
-    let pre = (start head).requires in
-    let inv = head.loop-i.invariant in (
-      omega (arith, inv.0, turn.loop-i-test.true, pre.0.zones),
+    let pre = c.requires in
+    let inv = c.loop-i.invariant in (
+      omega (arith, inv.0, c.loop-i-test.true, pre.0.zones),
       (omega (arith, inv.2, pre.3.0), inv.3),
-      hit_on_bar (quotes head) (is_up turned.scan_at-scan.result.direction) at-hit.zone_hit-hit.result at-hit.zone_hit-hit.ensures.lent_price pre.1 pre.2,
+      hit_on_bar (quotes c.before.before.before.before.before.before.before.before.before.before) (is_up c.scan_at-scan.result.direction) c.zone_hit-hit.result c.zone_hit-hit.ensures.lent_price pre.1 pre.2,
     )
 
 pub loop-i-preserved : goal.loop-i-preserved
 loop-i-preserved c =
-    let at-put = c.before.before in
-    let at-hit = at-put.before.before.before.before in
-    let at_Edge = at-hit.before in
-    let at-scan = at_Edge.before.before.before in
-    let turn = at-scan.before in
-    let head = turn.before.before in
-    let i = head.loop-i.i in
-    let inv = head.loop-i.invariant in
-    let more = turn.loop-i-test.true in
-    let kept = at-put.put_hit-zoned.ensures.one_more in (
+    let i = c.loop-i.i in
+    let inv = c.loop-i.invariant in
+    let more = c.loop-i-test.true in
+    let kept = c.put_hit-zoned.ensures.one_more in (
       omega (arith, inv.0, kept.0.1),
       omega (arith, more),
       kept.1.0 ∙ inv.2,
       kept.1.1,
       λ l zb t s.
           let zs = overlap_zones l in
-          marked_next (zone_third l (quotes head) zs) 512 _ _ _ [] zs i no_zone _ (omega (arith, more, t.zones.count))
-          (third_at l (quotes head) zs _ _ zb _ s.scans t.zones i more _ at-scan.scan_at-scan.ensures _ at_Edge.edge_of-edge.ensures _
-          (lt-ltb head.loop-i.zoned 512 (omega (arith, inv.0, more, (start head).requires.0.zones)))
-          at-hit.zone_hit-hit.result (λ stop lim. at-hit.zone_hit-hit.ensures.zone_hit l stop t.bigs lim) at-hit.zone_hit-hit.ensures.lent_price)
-          (at-put.put_hit-zoned.ensures.puts_hit 512 _ (inv.4 l zb t s)),
+          marked_next (zone_third l (quotes c.before.before.before.before.before.before.before.before.before.before.before.before.before) zs) 512 _ _ _ [] zs i no_zone _ (omega (arith, more, t.zones.count))
+          (third_at l (quotes c.before.before.before.before.before.before.before.before.before.before.before.before.before) zs _ _ zb _ s.scans t.zones i more _ c.scan_at-scan.ensures _ c.edge_of-edge.ensures _
+          (lt-ltb c.loop-i.zoned 512 (omega (arith, inv.0, more, c.requires.0.zones)))
+          c.zone_hit-hit.result (λ stop lim. c.zone_hit-hit.ensures.zone_hit l stop t.bigs lim) c.zone_hit-hit.ensures.lent_price)
+          (c.put_hit-zoned.ensures.puts_hit 512 _ (inv.4 l zb t s)),
     )
 
 pub returns : goal.returns
 returns c =
-    let anchors = c.before.before in
-    let side = anchors.before.before.before in
-    let done = side.before in
-    let head = done.before.before in
-    let inv = head.loop-i.invariant in
-    let kept = anchors.anchor_marks-all.ensures.lower_bound in record { all_bound = (kept.1, (kept.2.0 ∙ inv.2, kept.2.1)); gathers_thirds = λ l zb t s.
+    let inv = c.loop-i.invariant in
+    let kept = c.anchor_marks-all.ensures.lower_bound in record { all_bound = (kept.1, (kept.2.0 ∙ inv.2, kept.2.1)); gathers_thirds = λ l zb t s.
           let zs = overlap_zones l in
-          let i = head.loop-i.i in
-          let zoned = marked_all (zone_third l (quotes head) zs) 512 _ _ _ [] zs i (omega (arith, done.loop-i-test.false, t.zones.count)) (inv.4 l zb t s) in
-          marked_whole _ _ _ _ _ _ _ _ _ _ _ _ (side.side_of-side.ensures.side_of _ t.bigs.count t.superiors) side.side_of-side.ensures.bigs_value.0 t.bigs
-          (marked-zoned 512 _ _ _ _ zoned (omega (arith, inv.0, inv.1, (start head).requires.0.zones))) anchors.anchor_marks-all.ensures.anchor_marks; }
+          let i = c.loop-i.i in
+          let zoned = marked_all (zone_third l (quotes c.before.before.before.before.before.before.before.before) zs) 512 _ _ _ [] zs i (omega (arith, c.loop-i-test.false, t.zones.count)) (inv.4 l zb t s) in
+          marked_whole _ _ _ _ _ _ _ _ _ _ _ _ (c.side_of-side.ensures.side_of _ t.bigs.count t.superiors) c.side_of-side.ensures.bigs_value.0 t.bigs
+          (marked-zoned 512 _ _ _ _ zoned (omega (arith, inv.0, inv.1, c.requires.0.zones))) c.anchor_marks-all.ensures.anchor_marks; }

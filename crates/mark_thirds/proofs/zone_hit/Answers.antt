@@ -18,39 +18,25 @@ pub loop-at-init : goal.loop-at-init
 loop-at-init c = λ l stop t lim. refl
 
 pub returns-in_default : goal.returns-in_default
-returns-in_default c =
-    let found = c in
-    let head = found in record { lent_price = tt; zone_hit = λ l stop t lim. hits-over _ _ _ (head.loop-at.invariant l stop t lim)
-          (pair-over _ _ _ _ (found.next_pair-pair.ensures.next_pair l stop t lim) c.in_default.is); }
+returns-in_default c = record { lent_price = tt; zone_hit = λ l stop t lim. hits-over _ _ _ (c.loop-at.invariant l stop t lim)
+          (pair-over _ _ _ _ (c.next_pair-pair.ensures.next_pair l stop t lim) c.in_default.is); }
 
 pub returns-then-is_hit : goal.returns-then-is_hit
-returns-then-is_hit c =
-    let tried = c in
-    let told = tried in
-    let found = told in
-    let head = found in record { lent_price = tried.hit_at-hit.ensures.lent_price; zone_hit = λ l stop t lim. hit-first _ _ _ (head.loop-at.invariant l stop t lim) _ _
-          (pair-next _ _ _ _ (found.next_pair-pair.ensures.next_pair l stop t lim) _ _ told.in-At.is)
-          tried.hit_at-hit.result tried.hit_at-hit.ensures.bar_value _ c.is_hit.ensures c.if-is_hit.true; }
+returns-then-is_hit c = record { lent_price = c.hit_at-hit.ensures.lent_price; zone_hit = λ l stop t lim. hit-first _ _ _ (c.loop-at.invariant l stop t lim) _ _
+          (pair-next _ _ _ _ (c.next_pair-pair.ensures.next_pair l stop t lim) _ _ c.in-At.is)
+          c.hit_at-hit.result c.hit_at-hit.ensures.bar_value _ c.is_hit.ensures c.if-is_hit.true; }
 
 pub loop-at-smaller : goal.loop-at-smaller
 loop-at-smaller c =
-    let told = c in
-    let found = told in
-    let head = found in
-    let later = pair_later head.loop-at.at _ found.next_pair-pair.result _ _ found.next_pair-pair.ensures.later told.in-At.is in
+    let later = pair_later c.loop-at.at _ c.next_pair-pair.result _ _ c.next_pair-pair.ensures.later c.in-At.is in
     omega (arith, later.0, later.1)
 
 pub loop-at-preserved : goal.loop-at-preserved
 loop-at-preserved c =
-    let tried = c in
-    let told = tried in
-    let found = told in
-    let head = found in
-    λ l stop t lim. hit_later _ _ _ (head.loop-at.invariant l stop t lim) _ _
-    (pair-next _ _ _ _ (found.next_pair-pair.ensures.next_pair l stop t lim) _ _ told.in-At.is)
-    tried.hit_at-hit.result tried.hit_at-hit.ensures.bar_value _ c.is_hit.ensures c.if-is_hit.false
+    λ l stop t lim. hit_later _ _ _ (c.loop-at.invariant l stop t lim) _ _
+    (pair-next _ _ _ _ (c.next_pair-pair.ensures.next_pair l stop t lim) _ _ c.in-At.is)
+    c.hit_at-hit.result c.hit_at-hit.ensures.bar_value _ c.is_hit.ensures c.if-is_hit.false
 
 pub returns : goal.returns
-returns c =
-    let head = c in record { lent_price = tt; zone_hit = λ l stop t lim. hits-over _ _ _ (head.loop-at.invariant l stop t lim)
-          (pairs-none _ _ _ _ _ head.loop-at.at l stop t lim _ refl (omega (arith, c.loop-at-test.false))); }
+returns c = record { lent_price = tt; zone_hit = λ l stop t lim. hits-over _ _ _ (c.loop-at.invariant l stop t lim)
+          (pairs-none _ _ _ _ _ c.loop-at.at l stop t lim _ refl (omega (arith, c.loop-at-test.false))); }

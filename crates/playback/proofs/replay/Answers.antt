@@ -7,8 +7,7 @@ use Rattle.playback.proofs.replay.Goals as goal
 
 pub returns-in-At : goal.returns-in-At
 returns-in-At c =
-    let place = c in
-    stopped _ _ _ _ _ _ (sym (ap place_of place.in-At.is) ∙ place.bad_place.ensures) c.new.ensures
+    stopped _ _ _ _ _ _ (sym (ap place_of c.in-At.is) ∙ c.bad_place.ensures) c.new.ensures
 
 pub enum_told-1 : goal.enum_told-1
 enum_told-1 c = search rules

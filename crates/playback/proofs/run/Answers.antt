@@ -63,9 +63,7 @@ loop-at-smaller-in-Call c = let h = (entry_at c.before.before.before.before.befo
 
 pub loop-at-preserved-in-Call : goal.loop-at-preserved-in-Call
 loop-at-preserved-in-Call c =
-    let entry = c.before.before.before in
-    let next = entry.before.before in
-    further-call _ _ _ _ _ _ _ _ _ next.loop-at.invariant _ _ _ (entry_at next) _ (call_at entry) _ _ c.call-answer.ensures
+    further-call _ _ _ _ _ _ _ _ _ c.loop-at.invariant _ _ _ (entry_at c.before.before.before.before.before) _ (call_at c.before.before.before) _ _ c.call-answer.ensures
 
 -- CONVERT lost goal overflow-mul-highs
 -- mul-highs : tie.Need-overflow-mul-highs invariant-loop decreases-loop
@@ -89,8 +87,7 @@ loop-at-smaller-in-Bar c = let h = (entry_at c.before.before.before).here in ome
 
 pub loop-at-preserved-in-Bar : goal.loop-at-preserved-in-Bar
 loop-at-preserved-in-Bar c =
-    let next = c.before.before.before in
-    further-bar _ _ _ _ _ _ _ _ _ next.loop-at.invariant _ _ _ (entry_at next) _ _ (bar-at c.before)
+    further-bar _ _ _ _ _ _ _ _ _ c.loop-at.invariant _ _ _ (entry_at c.before.before.before) _ _ (bar-at c.before)
 
 pub enum_told-1 : goal.enum_told-1
 enum_told-1 c = search rules

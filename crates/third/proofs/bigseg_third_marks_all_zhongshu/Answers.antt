@@ -9,7 +9,7 @@ use Rattle.mark_scan.proofs.Scans.{tables_owners}
 use Rattle.mark_hits.proofs.Quotes.{quotes_fit}
 use Rattle.third.proofs.Call.{third_by}
 use Rattle.third.proofs.Rows.{bars_small}
-use Rattle.third.proofs.bigseg_third_marks_all_zhongshu.Goals.{After-quotes_refusal-own, After-scans_of, After-tables_of-begun, After-thirds_of-found, Else-begun-ne0, Start}
+use Rattle.third.proofs.bigseg_third_marks_all_zhongshu.Goals.{After-quotes_refusal-own, After-tables_of-begun, Else-begun-ne0, Start}
 use Rattle.third.proofs.bigseg_third_marks_all_zhongshu.Goals as goal
 
 -- the places of the code that the proof goes back to
@@ -22,19 +22,13 @@ priced c = c.before.before.before.before.before.before
 abbrev begun : Else-begun-ne0 → After-tables_of-begun
 begun c = c.before.before
 
-abbrev known : After-scans_of → Else-begun-ne0
-known c = c.before.before.before.before.before.before.before
-
-abbrev at_scans : After-thirds_of-found → After-scans_of
-at_scans c = c.before.before.before.before.before.before.before.before
-
 -- the slices are not refused with 8 or 1, so they are short enough
 short :
     (c : Else-begun-ne0)
     → (length (start (priced (begun c))).args.highs.now ≤ 0x1_0000) × (length (start (priced (begun c))).args.lows.now ≤ 0x1_0000)
 short c =
-    let own = own_none _ _ (sym (begun c).tables_of-begun.ensures.number_value ∙ c.if-begun-ne0.false) in
-    let fit = quotes_fit _ _ (sym own ∙ (priced (begun c)).quotes_refusal-own.ensures) in
+    let own = own_none _ _ (sym c.tables_of-begun.ensures.number_value ∙ c.if-begun-ne0.false) in
+    let fit = quotes_fit _ _ (sym own ∙ c.quotes_refusal-own.ensures) in
     (fit.0, fit.1)
 
 pub tables_of-begun-requires : goal.tables_of-begun-requires
@@ -42,34 +36,27 @@ tables_of-begun-requires c = ((refl, refl), (refl, refl), refl)
 
 pub returns-then-begun-ne0 : goal.returns-then-begun-ne0
 returns-then-begun-ne0 c =
-    let made = c.before.before.before in
-    c.refusal.ensures ∙ (third_by _ _ _ (priced made).quotes_refusal-own.ensures _ made.tables_of-begun.ensures.number_value).0 c.if-begun-ne0.true
+    c.refusal.ensures ∙ (third_by _ _ _ c.quotes_refusal-own.ensures _ c.tables_of-begun.ensures.number_value).0 c.if-begun-ne0.true
 
 pub scans_of-requires : goal.scans_of-requires
 scans_of-requires c =
-    let here = c.before.before.before.before.before.before in
-    let t = (begun here).tables_of-begun.ensures.tables.0 here.if-begun-ne0.false in
+    let t = c.tables_of-begun.ensures.tables c.if-begun-ne0.false in
     (t.fits, tables_owners _ _ _ _ _ _ _ t, refl)
 
 pub thirds_of-found-requires : goal.thirds_of-found-requires
 thirds_of-found-requires c =
-    let here = known c.before.before.before.before.before.before.before in
-    (((begun here).tables_of-begun.ensures.tables.0 here.if-begun-ne0.false).fits, (short here).0, (short here).1, (omega arith, refl))
+    ((c.tables_of-begun.ensures.tables c.if-begun-ne0.false).fits, (short c.before.before.before.before.before.before.before.before.before.before.before.before.before.before).0, (short c.before.before.before.before.before.before.before.before.before.before.before.before.before.before).1, (omega arith, refl))
 
 -- CONVERT clauses ['n_bound', 'all']
 pub rows_of-requires : goal.rows_of-requires
 rows_of-requires c =
-    let made = c.before.before.before in
-    let here = known (at_scans made) in
-    let t = (begun here).tables_of-begun.ensures.tables.0 here.if-begun-ne0.false in
-    let marked = made.thirds_of-found.ensures.gathers_thirds _ _ t ((at_scans made).scans_of.ensures.scanned _ _ t) in
-    let room = made.thirds_of-found.ensures.all_bound in
-    (room.0, omega (arith, room.0, room.1.0), bars_small _ _ _ _ _ _ marked (short here).0 (short here).1)
+    let t = c.tables_of-begun.ensures.tables c.if-begun-ne0.false in
+    let marked = c.thirds_of-found.ensures.gathers_thirds _ _ t (c.scans_of.ensures.scanned _ _ t) in
+    let room = c.thirds_of-found.ensures.all_bound in
+    (room.0, omega (arith, room.0, room.1.0), bars_small _ _ _ _ _ _ marked (short c.before.before.before.before.before.before.before.before.before.before.before.before.before.before.before.before.before.before).0 (short c.before.before.before.before.before.before.before.before.before.before.before.before.before.before.before.before.before.before).1)
 
 pub returns : goal.returns
 returns c =
-    let made = c.before.before.before.before in
-    let here = known (at_scans made) in
-    let t = (begun here).tables_of-begun.ensures.tables.0 here.if-begun-ne0.false in
-    c.rows_of.ensures _ (made.thirds_of-found.ensures.gathers_thirds _ _ t ((at_scans made).scans_of.ensures.scanned _ _ t))
-    ∙ (third_by _ _ _ (priced (begun here)).quotes_refusal-own.ensures _ (begun here).tables_of-begun.ensures.number_value).1 here.if-begun-ne0.false
+    let t = c.tables_of-begun.ensures.tables c.if-begun-ne0.false in
+    c.rows_of.ensures _ (c.thirds_of-found.ensures.gathers_thirds _ _ t (c.scans_of.ensures.scanned _ _ t))
+    ∙ (third_by _ _ _ c.quotes_refusal-own.ensures _ c.tables_of-begun.ensures.number_value).1 c.if-begun-ne0.false

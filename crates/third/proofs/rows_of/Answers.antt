@@ -15,24 +15,19 @@ loop-i-init c = (omega arith, refl, λ l w. refl)
 
 pub row_of-requires : goal.row_of-requires
 row_of-requires c =
-    let turn = c in
-    let head = turn in
-    head.requires.2 head.loop-i.i turn.loop-i-test.true
+    c.requires.2 c.loop-i.i c.loop-i-test.true
 
 pub loop-i-preserved : goal.loop-i-preserved
 loop-i-preserved c =
-    let turn = c in
-    let head = turn in
-    let more = turn.loop-i-test.true in
-    let inv = head.loop-i.invariant in (
+    let more = c.loop-i-test.true in
+    let inv = c.loop-i.invariant in (
       omega arith,
       simp length-set inv.1,
-      λ l w. given-next _ _ _ _ l w head.loop-i.i head.loop-i.rows (inv.2 l w) more (omega (arith, inv, more, head.requires))
+      λ l w. given-next _ _ _ _ l w c.loop-i.i c.loop-i.rows (inv.2 l w) more (omega (arith, inv, more, c.requires))
           _ c.row_of.ensures,
     )
 
 pub returns : goal.returns
 returns c =
-    let head = c in
-    let inv = head.loop-i.invariant in
-    λ l w. given-all _ _ _ _ l w head.loop-i.i head.loop-i.rows (inv.2 l w) c.loop-i-test.false inv.0 (omega (arith, inv, head.requires))
+    let inv = c.loop-i.invariant in
+    λ l w. given-all _ _ _ _ l w c.loop-i.i c.loop-i.rows (inv.2 l w) c.loop-i-test.false inv.0 (omega (arith, inv, c.requires))

@@ -21,21 +21,17 @@ loop-i-init c = (omega arith, refl)
 
 pub returns-then-len-s : goal.returns-then-len-s
 returns-then-len-s c =
-    let in-loop = c in
-    let head = in-loop in
-    sym (any_here (λ (s : Stroke). leb _ s.end_bar) _ head.loop-i.i _ (long head.before) no_stroke in-loop.loop-i-test.true
-    (le-leb _ _ c.if-len-s.true)) ∙ head.loop-i.invariant.1
+    sym (any_here (λ (s : Stroke). leb _ s.end_bar) _ c.loop-i.i _ (long c.before.before.before.before.before) no_stroke c.loop-i-test.true
+    (le-leb _ _ c.if-len-s.true)) ∙ c.loop-i.invariant.1
 
 pub loop-i-preserved : goal.loop-i-preserved
 loop-i-preserved c =
-    let in-loop = c in
-    let head = in-loop in (
-      omega (arith, in-loop.loop-i-test.true),
-      sym (any-later (λ (s : Stroke). leb _ s.end_bar) _ head.loop-i.i _ (long head.before) no_stroke in-loop.loop-i-test.true
-          (lt-leb _ _ c.if-len-s.false)) ∙ head.loop-i.invariant.1,
+    (
+      omega (arith, c.loop-i-test.true),
+      sym (any-later (λ (s : Stroke). leb _ s.end_bar) _ c.loop-i.i _ (long c.before.before.before.before.before) no_stroke c.loop-i-test.true
+          (lt-leb _ _ c.if-len-s.false)) ∙ c.loop-i.invariant.1,
     )
 
 pub returns : goal.returns
 returns c =
-    let head = c in
-    sym (any_none (λ (s : Stroke). leb _ s.end_bar) _ head.loop-i.i _ (long head.before) c.loop-i-test.false) ∙ head.loop-i.invariant.1
+    sym (any_none (λ (s : Stroke). leb _ s.end_bar) _ c.loop-i.i _ (long c.before.before) c.loop-i-test.false) ∙ c.loop-i.invariant.1

@@ -21,19 +21,15 @@ ends_outside-requires c = omega (arith, c.at_most.ensures)
 pub returns-then-ends_outside : goal.returns-then-ends_outside
 unfolding refuse
 returns-then-ends_outside c =
-    let ends = c in
-    let priced = ends in
-    let args = priced.args in
-    let all = ap (λ (k : ℕ). take k args.strokes) ends.at_most.ensures ∙ clipped args.n 512 args.strokes (search rules) in
-    own-ends _ _ priced.quotes_refusal-number.ensures _ _ ends.if-number-ne0.false
-    (ap (any (λ (s : Stroke). leb _ s.end_bar)) (sym all) ∙ sym ends.ends_outside.ensures ∙ c.if-ends_outside.true)
+    let args = c.args in
+    let all = ap (λ (k : ℕ). take k args.strokes) c.at_most.ensures ∙ clipped args.n 512 args.strokes (search rules) in
+    own-ends _ _ c.quotes_refusal-number.ensures _ _ c.if-number-ne0.false
+    (ap (any (λ (s : Stroke). leb _ s.end_bar)) (sym all) ∙ sym c.ends_outside.ensures ∙ c.if-ends_outside.true)
 
 pub returns : goal.returns
 unfolding refuse
 returns c =
-    let ends = c in
-    let priced = ends in
-    let args = priced.args in
-    let all = ap (λ (k : ℕ). take k args.strokes) ends.at_most.ensures ∙ clipped args.n 512 args.strokes (search rules) in
-    own-ends _ _ priced.quotes_refusal-number.ensures _ _ ends.if-number-ne0.false
-    (ap (any (λ (s : Stroke). leb _ s.end_bar)) (sym all) ∙ sym ends.ends_outside.ensures ∙ c.if-ends_outside.false)
+    let args = c.args in
+    let all = ap (λ (k : ℕ). take k args.strokes) c.at_most.ensures ∙ clipped args.n 512 args.strokes (search rules) in
+    own-ends _ _ c.quotes_refusal-number.ensures _ _ c.if-number-ne0.false
+    (ap (any (λ (s : Stroke). leb _ s.end_bar)) (sym all) ∙ sym c.ends_outside.ensures ∙ c.if-ends_outside.false)

@@ -3,15 +3,7 @@ use mathlib.Core.Path.{refl, ap, ◌∙◌}
 use borrow.Author.Rules.{rules}
 use Rattle.rules.specs.Answer.{given}
 use Rattle.zones.proofs.Call.{zones_by}
-use Rattle.zones.proofs.detect_bigseg_zhongshus_by_overlap.Goals.{After-tables_of-begun, After-zp-2-1, Else-begun-ne0}
 use Rattle.zones.proofs.detect_bigseg_zhongshus_by_overlap.Goals as goal
-
--- the call is not refused
-abbrev else1 : After-zp-2-1 → Else-begun-ne0
-else1 c = c.before.before.before
-
-abbrev begun : Else-begun-ne0 → After-tables_of-begun
-begun c = c.before.before
 
 pub tables_of-begun-requires : goal.tables_of-begun-requires
 tables_of-begun-requires c = ((refl, refl), (refl, refl), refl)
@@ -21,10 +13,9 @@ returns-then-begun-ne0 c = c.refusal.ensures ∙ (zones_by _ _ c.tables_of-begun
 
 pub rows_of-requires : goal.rows_of-requires
 rows_of-requires c =
-    let made = (begun (else1 c)).tables_of-begun in record { n_bound = (made.ensures.1.0 (else1 c).if-begun-ne0.false).fits.zones; all = made.ensures.1.1; }
+    let made = c.tables_of-begun in record { n_bound = (made.ensures.1.0 c.if-begun-ne0.false).fits.zones; all = made.ensures.1.1; }
 
 pub returns : goal.returns
 returns c =
-    let known = else1 c.before in
-    let made = (begun known).tables_of-begun.ensures in
-    c.rows_of.ensures ∙ ap given (made.1.0 known.if-begun-ne0.false).zones.are ∙ (zones_by _ _ made.0).1 known.if-begun-ne0.false
+    let made = c.tables_of-begun.ensures in
+    c.rows_of.ensures ∙ ap given (made.1.0 c.if-begun-ne0.false).zones.are ∙ (zones_by _ _ made.0).1 c.if-begun-ne0.false

@@ -5,8 +5,5 @@ use Rattle.zones.proofs.join.Goals as goal
 
 pub returns : goal.returns
 returns c =
-    let gg = c in
-    let zg = gg in
-    let zd = zg in
-    joined _ _ _ _ _ _ _ _ _ _ zd.higher.ensures zd.fixed.ensures zg.lower.ensures zg.fixed-2.ensures
-    gg.lower-2.ensures gg.higher-2.ensures c.low_bar.ensures c.low_bar-2.ensures
+    joined _ _ _ _ _ _ _ _ _ _ c.higher.ensures c.fixed.ensures c.lower.ensures c.fixed-2.ensures
+    c.lower-2.ensures c.higher-2.ensures c.low_bar.ensures c.low_bar-2.ensures

@@ -8,9 +8,7 @@ returns-then-z-eq1 c = joins-second _ _ _ _ c.if-z-eq1.true c.higher.ensures c.l
 
 pub returns-then-s-z : goal.returns-then-s-z
 returns-then-s-z c =
-    let later = c in
-    let start = later in
-    joins-later start.args.z start.args.s start.if-z-eq1.false later.if-s-z.true
+    joins-later c.args.z c.args.s c.if-z-eq1.false c.if-s-z.true
 
 pub returns-else-s-z : goal.returns-else-s-z
 returns-else-s-z c = joins-not _ _ c.if-z-eq1.false c.if-s-z.false

@@ -10,34 +10,22 @@ loop-h-init c = starts-all _ _ _ _ _ _ _ c.requires.2
 
 pub loop-h-preserved-then-m-wide : goal.loop-h-preserved-then-m-wide
 loop-h-preserved-then-m-wide c =
-    let turn = c in
-    let head = turn in
-    owner-skips _ _ _ _ _ _ _ _ _ head.loop-h.invariant turn.loop-h-test.true (omega (arith, c.if-m-wide.true, c.wide.ensures.0))
+    owner-skips _ _ _ _ _ _ _ _ _ c.loop-h.invariant c.loop-h-test.true (omega (arith, c.if-m-wide.true, c.wide.ensures.0))
 
 pub owner_zones-count-requires : goal.owner_zones-count-requires
 owner_zones-count-requires c =
-    let skipped = c in
-    let head = skipped in
-    let inv = head.loop-h.invariant in
-    (inv.few, omega (arith, skipped.if-m-wide.false, skipped.wide.ensures.0, head.requires.1), inv.wide)
+    let inv = c.loop-h.invariant in
+    (inv.few, omega (arith, c.if-m-wide.false, c.wide.ensures.0, c.requires.1), inv.wide)
 
 pub returns-then-count-eq257 : goal.returns-then-count-eq257
-returns-then-count-eq257 c =
-    let put = c in
-    let skipped = put in
-    let turn = skipped in
-    let head = turn in record { upper_bound = (omega arith, put.owner_zones-count.ensures.upper_bound.1); all_zones = owner-full _ _ _ _ _ _ _ _ _ head.loop-h.invariant turn.loop-h-test.true
-          (omega (arith, skipped.if-m-wide.false, skipped.wide.ensures.0)) _ _ _ put.owner_zones-count.ensures.owner_zones c.if-count-eq257.true; }
+returns-then-count-eq257 c = record { upper_bound = (omega arith, c.owner_zones-count.ensures.upper_bound.1); all_zones = owner-full _ _ _ _ _ _ _ _ _ c.loop-h.invariant c.loop-h-test.true
+          (omega (arith, c.if-m-wide.false, c.wide.ensures.0)) _ _ _ c.owner_zones-count.ensures.owner_zones c.if-count-eq257.true; }
 
 pub loop-h-preserved : goal.loop-h-preserved
 loop-h-preserved c =
-    let put = c in
-    let skipped = put in
-    let turn = skipped in
-    let head = turn in
-    owner-puts _ _ _ _ _ _ _ _ _ head.loop-h.invariant turn.loop-h-test.true
-    (omega (arith, skipped.if-m-wide.false, skipped.wide.ensures.0)) _ _ _ put.owner_zones-count.ensures.owner_zones
-    (omega (arith, put.owner_zones-count.ensures.upper_bound.0, c.if-count-eq257.false)) put.owner_zones-count.ensures.upper_bound.1
+    owner-puts _ _ _ _ _ _ _ _ _ c.loop-h.invariant c.loop-h-test.true
+    (omega (arith, c.if-m-wide.false, c.wide.ensures.0)) _ _ _ c.owner_zones-count.ensures.owner_zones
+    (omega (arith, c.owner_zones-count.ensures.upper_bound.0, c.if-count-eq257.false)) c.owner_zones-count.ensures.upper_bound.1
 
 pub returns : goal.returns
 returns c =

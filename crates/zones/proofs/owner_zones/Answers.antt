@@ -6,81 +6,57 @@ use mathlib.Core.Path.{refl, sym, ◌∙◌}
 use borrow.Author.Rules.{rules}
 use borrow.Author.Tests.{not-true, not-false}
 use Rattle.zones.proofs.Tables.{Scanning, starts-scan, past_same, past-missing, goes_on, puts_one, no_room, ends_on, ends-puts, ends-full}
-use Rattle.zones.proofs.owner_zones.Goals.{After-range_at, After-take_member-next, In-loop-at}
 use Rattle.zones.proofs.owner_zones.Goals as goal
-
--- the places of the code that the proof goes back to
-abbrev range-of : After-take_member-next → After-range_at
-range-of c = c.before.before.before.before
-
-abbrev in-loop : After-range_at → In-loop-at
-in-loop c = c.before.before.before
 
 pub loop-at-init : goal.loop-at-init
 loop-at-init c = (c.requires.1, starts-scan _ _ _ _ _ _ _ _ _ _ refl c.requires.0 c.requires.2)
 
 pub loop-at-preserved-then-way_at-direction : goal.loop-at-preserved-then-way_at-direction
 loop-at-preserved-then-way_at-direction c =
-    let turn = c in
-    let inv = turn.loop-at.invariant in
-    (inv.0, past_same _ _ _ _ _ _ _ _ _ _ _ _ _ _ _ inv.1 turn.loop-at-test.true (sym c.way_at.ensures ∙ c.if-way_at-direction.true))
+    let inv = c.loop-at.invariant in
+    (inv.0, past_same _ _ _ _ _ _ _ _ _ _ _ _ _ _ _ inv.1 c.loop-at-test.true (sym c.way_at.ensures ∙ c.if-way_at-direction.true))
 
 pub loop-at-preserved-in_default : goal.loop-at-preserved-in_default
 loop-at-preserved-in_default c =
-    let read = c.before.before in
-    let turn = in-loop read in
-    let inv = turn.loop-at.invariant in
-    (inv.0, past-missing _ _ _ _ _ _ _ _ _ _ _ _ _ _ _ inv.1 turn.loop-at-test.true (sym read.range_at.ensures ∙ c.in_default.is))
+    let inv = c.loop-at.invariant in
+    (inv.0, past-missing _ _ _ _ _ _ _ _ _ _ _ _ _ _ _ inv.1 c.loop-at-test.true (sym c.range_at.ensures ∙ c.in_default.is))
 
 pub take_member-next-requires : goal.take_member-next-requires
 take_member-next-requires c =
-    let turn = in-loop c.before.before.before in
-    omega (arith, turn.loop-at.invariant.0, turn.loop-at.invariant.1.short, turn.loop-at-test.true)
+    omega (arith, c.loop-at.invariant.0, c.loop-at.invariant.1.short, c.loop-at-test.true)
 
 pub loop-at-preserved-then-not-next : goal.loop-at-preserved-then-not-next
 loop-at-preserved-then-not-next c =
-    let took = c.before.before.before in
-    let read = range-of took in
-    let turn = in-loop read in
-    let inv = turn.loop-at.invariant in (
+    let inv = c.loop-at.invariant in (
       inv.0,
-      goes_on _ _ _ _ _ _ _ _ _ _ _ _ _ _ _ inv.1 turn.loop-at-test.true (λ e. read.if-way_at-direction.false (read.way_at.ensures ∙ e)) _
-          (sym read.range_at.ensures ∙ took.in-Found.is) took.take_member-next.result.closed took.take_member-next.result.run
-          took.take_member-next.ensures (not-true _ c.if-not-next.true),
+      goes_on _ _ _ _ _ _ _ _ _ _ _ _ _ _ _ inv.1 c.loop-at-test.true (λ e. c.if-way_at-direction.false (c.way_at.ensures ∙ e)) _
+          (sym c.range_at.ensures ∙ c.in-Found.is) c.take_member-next.result.closed c.take_member-next.result.run
+          c.take_member-next.ensures (not-true _ c.if-not-next.true),
     )
 
 pub returns-then-count-eq256 : goal.returns-then-count-eq256
 returns-then-count-eq256 c =
-    let took = c.before.before.before.before in
-    let read = range-of took in
-    let turn = in-loop read in
-    let inv = turn.loop-at.invariant in record { upper_bound = (omega arith, inv.1.wide); owner_zones = no_room _ _ _ _ _ _ _ _ _ _ _ _ _ _ _ inv.1 turn.loop-at-test.true (λ e. read.if-way_at-direction.false (read.way_at.ensures ∙ e)) _
-          (sym read.range_at.ensures ∙ took.in-Found.is) took.take_member-next.result.closed took.take_member-next.result.run
-          took.take_member-next.ensures (not-false _ c.if-not-next.false) c.if-count-eq256.true; }
+    let inv = c.loop-at.invariant in record { upper_bound = (omega arith, inv.1.wide); owner_zones = no_room _ _ _ _ _ _ _ _ _ _ _ _ _ _ _ inv.1 c.loop-at-test.true (λ e. c.if-way_at-direction.false (c.way_at.ensures ∙ e)) _
+          (sym c.range_at.ensures ∙ c.in-Found.is) c.take_member-next.result.closed c.take_member-next.result.run
+          c.take_member-next.ensures (not-false _ c.if-not-next.false) c.if-count-eq256.true; }
 
 pub put_zone-requires : goal.put_zone-requires
 put_zone-requires c =
-    let chosen = c in
-    let inv = (in-loop (range-of chosen.before.before.before.before)).loop-at.invariant.1 in
-    (omega (arith, inv.few, chosen.if-count-eq256.false), inv.wide)
+    let inv = c.loop-at.invariant.1 in
+    (omega (arith, inv.few, c.if-count-eq256.false), inv.wide)
 
 pub overflow_add-count : goal.overflow_add-count
 overflow_add-count c =
-    let chosen = c in
-    let inv = (in-loop (range-of chosen.before.before.before.before)).loop-at.invariant.1 in
+    let inv = c.loop-at.invariant.1 in
     omega (arith, inv.few)
 
 pub loop-at-preserved : goal.loop-at-preserved
 loop-at-preserved c =
-    let chosen = c.before.before.before in
-    let took = chosen.before.before.before.before in
-    let read = range-of took in
-    let turn = in-loop read in
-    let inv = turn.loop-at.invariant in (
+    let inv = c.loop-at.invariant in (
       inv.0,
-      puts_one _ _ _ _ _ _ _ _ _ _ _ _ _ _ _ inv.1 turn.loop-at-test.true (λ e. read.if-way_at-direction.false (read.way_at.ensures ∙ e)) _
-          (sym read.range_at.ensures ∙ took.in-Found.is) took.take_member-next.result.closed took.take_member-next.result.run
-          took.take_member-next.ensures _ _ (not-false _ chosen.if-not-next.false) chosen.if-count-eq256.false c.put_zone.ensures,
+      puts_one _ _ _ _ _ _ _ _ _ _ _ _ _ _ _ inv.1 c.loop-at-test.true (λ e. c.if-way_at-direction.false (c.way_at.ensures ∙ e)) _
+          (sym c.range_at.ensures ∙ c.in-Found.is) c.take_member-next.result.closed c.take_member-next.result.run
+          c.take_member-next.ensures _ _ (not-false _ c.if-not-next.false) c.if-count-eq256.false c.put_zone.ensures,
     )
 
 pub returns-then-not-begun : goal.returns-then-not-begun
@@ -89,18 +65,14 @@ returns-then-not-begun c =
 
 pub returns-then-count-eq256-2 : goal.returns-then-count-eq256-2
 returns-then-count-eq256-2 c =
-    let ended = c in
-    let inv = ended.loop-at.invariant.1 in record { upper_bound = (omega arith, inv.wide); owner_zones = ends-full _ _ _ _ _ _ _ _ _ _ _ _ _ _ _ inv ended.loop-at-test.false (not-false _ c.if-not-begun.false-raw) c.if-count-eq256-2.true; }
+    let inv = c.loop-at.invariant.1 in record { upper_bound = (omega arith, inv.wide); owner_zones = ends-full _ _ _ _ _ _ _ _ _ _ _ _ _ _ _ inv c.loop-at-test.false (not-false _ c.if-not-begun.false-raw) c.if-count-eq256-2.true; }
 
 pub put_zone-requires-2 : goal.put_zone-requires-2
 put_zone-requires-2 c =
-    let chosen = c in
-    let inv = chosen.loop-at.invariant.1 in
-    (omega (arith, inv.few, chosen.if-count-eq256-2.false), inv.wide)
+    let inv = c.loop-at.invariant.1 in
+    (omega (arith, inv.few, c.if-count-eq256-2.false), inv.wide)
 
 pub returns : goal.returns
 returns c =
-    let chosen = c in
-    let ended = chosen in
-    let inv = ended.loop-at.invariant.1 in record { upper_bound = (omega (arith, inv.few), c.put_zone-2.ensures.wide); owner_zones = ends-puts _ _ _ _ _ _ _ _ _ _ _ _ _ _ _ inv ended.loop-at-test.false _ _ (not-false _ chosen.if-not-begun.false-raw)
-          chosen.if-count-eq256-2.false c.put_zone-2.ensures; }
+    let inv = c.loop-at.invariant.1 in record { upper_bound = (omega (arith, inv.few), c.put_zone-2.ensures.wide); owner_zones = ends-puts _ _ _ _ _ _ _ _ _ _ _ _ _ _ _ inv c.loop-at-test.false _ _ (not-false _ c.if-not-begun.false-raw)
+          c.if-count-eq256-2.false c.put_zone-2.ensures; }

@@ -13,18 +13,15 @@ loop-i-init c = (omega arith, refl, refl)
 
 pub loop-i-preserved : goal.loop-i-preserved
 loop-i-preserved c =
-    let turn = c in
-    let head = turn in
-    let pre = head.requires in
-    let inv = head.loop-i.invariant in (
+    let pre = c.requires in
+    let inv = c.loop-i.invariant in (
       omega arith,
       simp length-set inv.1,
-      row_more _ head.loop-i.i _ _ pre.1 pre.0 head.loop-i.rows inv.1 inv.2 _ turn.loop-i-test.true c.zone_at.ensures,
+      row_more _ c.loop-i.i _ _ pre.1 pre.0 c.loop-i.rows inv.1 inv.2 _ c.loop-i-test.true c.zone_at.ensures,
     )
 
 pub returns : goal.returns
 returns c =
-    let head = c in
-    let pre = head.requires in
-    let inv = head.loop-i.invariant in
-    rows_all _ head.loop-i.i _ _ pre.1 pre.0 head.loop-i.rows inv.1 inv.2 c.loop-i-test.false inv.0
+    let pre = c.requires in
+    let inv = c.loop-i.invariant in
+    rows_all _ c.loop-i.i _ _ pre.1 pre.0 c.loop-i.rows inv.1 inv.2 c.loop-i-test.false inv.0

@@ -20,10 +20,10 @@ abbrev else1 : Else-own-ne0 → Else-bigs_of
 else1 c = c.before
 
 abbrev else2 : After-superiors_of → Else-own-ne0
-else2 c = c.before.before.before.before.before.before
+else2 c = c.before.before.before.before.before
 
 abbrev listed : After-overlap-count → After-superiors_of
-listed c = c.before.before.before.before.before.before
+listed c = c.before.before.before
 
 abbrev start : Else-bigs_of → Start
 start c = c.before.before.before.before
@@ -42,7 +42,7 @@ superiors :
     (c : After-superiors_of)
     → Sups (levels_of (start (else1 (else2 c))).args.chart) (start (else1 (else2 c))).args.chart.superior_count c.superiors_of.new.1.1.1.1.0
 unfolding levels_of
-superiors c = c.superiors_of.ensures _ _ (bigs (else1 (else2 c))) refl
+superiors c = c.superiors_of.ensures _ _ (bigs c.before.before.before.before.before.before) refl
 
 zones :
     (c : After-overlap-count)
@@ -50,7 +50,7 @@ zones :
     (overlap_zones (levels_of (start (else1 (else2 (listed c)))).args.chart))
 unfolding overlap_zones
 zones c =
-    c.overlap-count.ensures.all_zones _ _ _ (bigs-members _ _ _ _ (bigs (else1 (else2 (listed c))))) (sups_owners _ _ _ (superiors (listed c)))
+    c.overlap-count.ensures.all_zones _ _ _ (bigs-members _ _ _ _ (bigs c.before.before.before.before.before.before.before.before.before)) (sups_owners _ _ _ (superiors c.before.before.before))
 
 pub returns-then-bigs_of : goal.returns-then-bigs_of
 returns-then-bigs_of c =
@@ -58,34 +58,28 @@ returns-then-bigs_of c =
 
 pub returns-then-own-ne0 : goal.returns-then-own-ne0
 returns-then-own-ne0 c =
-    let number = c.no_tables-then-own-ne0.ensures ∙ number-own _ _ (good c.before.before) c.if-own-ne0.true in record { number_value = number; tables = λ none. absurd (c.if-own-ne0.true (sym c.no_tables-then-own-ne0.ensures ∙ none)); wide = (start c.before.before).requires.1; }
+    let number = c.no_tables-then-own-ne0.ensures ∙ number-own _ _ (good c.before.before) c.if-own-ne0.true in record { number_value = number; tables = λ none. absurd (c.if-own-ne0.true (sym c.no_tables-then-own-ne0.ensures ∙ none)); wide = c.requires.1; }
 
 pub superiors_of-requires : goal.superiors_of-requires
 superiors_of-requires c =
-    let known = else1 c.before.before.before.before.before in
-    let fits = counted _ (good known) in
-    (fits.superiors, fits.bigs, (start known).requires.2)
+    let fits = counted _ (good c.before.before.before.before.before) in
+    (fits.superiors, fits.bigs, c.requires.2)
 
 pub overlap-count-requires : goal.overlap-count-requires
 overlap-count-requires c =
-    let known = else1 (else2 c.before.before.before.before.before) in
-    let fits = counted _ (good known) in
-    (fits.superiors, fits.bigs, (start known).requires.1)
+    let fits = counted _ (good c.before.before.before.before.before.before.before.before) in
+    (fits.superiors, fits.bigs, c.requires.1)
 
 pub returns-then-count-gt256 : goal.returns-then-count-gt256
 returns-then-count-gt256 c =
-    let put = c.before.before in
-    let known = else2 (listed put) in
-    let number = c.no_tables-then-count-gt256.ensures ∙ number-many _ _ (good (else1 known)) known.if-own-ne0.false _ _ _ (zones put) c.if-count-gt256.true in record { number_value = number; tables = λ none. absurd (omega (arith, none, c.no_tables-then-count-gt256.ensures)); wide = put.overlap-count.ensures.upper_bound.1; }
+    let number = c.no_tables-then-count-gt256.ensures ∙ number-many _ _ (good c.before.before.before.before.before.before.before.before.before.before.before) c.if-own-ne0.false _ _ _ (zones c.before.before) c.if-count-gt256.true in record { number_value = number; tables = λ none. absurd (omega (arith, none, c.no_tables-then-count-gt256.ensures)); wide = c.overlap-count.ensures.upper_bound.1; }
 
 pub returns : goal.returns
 returns c =
-    let put = c.before in
-    let known = else1 (else2 (listed put)) in
-    let fits = counted _ (good known) in
-    let own = (zones put).few c.if-count-gt256.false in record { number_value = number-few _ _ (good known) (else2 (listed put)).if-own-ne0.false _ _ _ (zones put) c.if-count-gt256.false; tables = λ _. record {
+    let fits = counted _ (good c.before.before.before.before.before.before.before.before.before.before) in
+    let own = (zones c.before).few c.if-count-gt256.false in record { number_value = number-few _ _ (good c.before.before.before.before.before.before.before.before.before.before) c.if-own-ne0.false _ _ _ (zones c.before) c.if-count-gt256.false; tables = λ _. record {
           fits = record { bigs = fits.bigs; superiors = fits.superiors; zones = c.if-count-gt256.false };
-          bigs = bigs known;
-          superiors = superiors (listed put);
+          bigs = bigs c.before.before.before.before.before.before.before.before.before.before;
+          superiors = superiors c.before.before.before.before;
           zones = own;
-        }; wide = put.overlap-count.ensures.upper_bound.1; }
+        }; wide = c.overlap-count.ensures.upper_bound.1; }

@@ -5,18 +5,11 @@ use borrow.Author.Tests.{not-true, not-false}
 use Rattle.zones.proofs.Tables.{takes-begins, takes-joins, takes-closes}
 use Rattle.zones.proofs.take_member.Goals as goal
 
--- CONVERT clauses ['members_bound', 'takes']
 pub returns-then-not-begun : goal.returns-then-not-begun
-returns-then-not-begun c = takes-begins _ _ _ _ _ _ (not-true _ c.if-not-begun.true-raw) c.begin.ensures
+returns-then-not-begun c = let whole = takes-begins _ _ _ _ _ _ (not-true _ c.if-not-begun.true-raw) c.begin.ensures in record { members_bound = whole.0; takes = whole.1; }
 
--- CONVERT clauses ['members_bound', 'takes']
 pub returns-then-joins : goal.returns-then-joins
-returns-then-joins c =
-    let tested = c in
-    takes-joins _ _ _ _ _ _ (not-false _ tested.if-not-begun.false-raw) (sym tested.joins.ensures ∙ c.if-joins.true) c.join.ensures
+returns-then-joins c = let whole = takes-joins _ _ _ _ _ _ (not-false _ c.if-not-begun.false-raw) (sym c.joins.ensures ∙ c.if-joins.true) c.join.ensures in record { members_bound = whole.0; takes = whole.1; }
 
--- CONVERT clauses ['members_bound', 'takes']
 pub returns : goal.returns
-returns c =
-    let tested = c in
-    takes-closes _ _ _ _ _ _ (not-false _ tested.if-not-begun.false-raw) (sym tested.joins.ensures ∙ c.if-joins.false) c.begin-2.ensures
+returns c = let whole = takes-closes _ _ _ _ _ _ (not-false _ c.if-not-begun.false-raw) (sym c.joins.ensures ∙ c.if-joins.false) c.begin-2.ensures in record { members_bound = whole.0; takes = whole.1; }

@@ -22,7 +22,7 @@ start c = c.before.before.before
 number_is : (c : Joined-number-eq0) → c.if-number-eq0.number ≡ live_refusal (data_of (start c).args.self) (add_segment (start c).args.t)
 number_is c =
     answer-is _ _ _ _ c.first_number-number.ensures
-    (λ w. (w.0.true, λ good. w.3 ∙ w.2.ensures ∙ sym (adding-refused _ (sized (start c)) (counted _ good) (above segment) _)))
+    (λ w. (w.0.true, λ good. w.3 ∙ w.2.ensures ∙ sym (adding-refused _ (sized c.before.before.before) (counted _ good) (above segment) _)))
     (λ w. (w.0.false, w.1)) c.if-number-eq0.branch
 
 zero : (c : Then-number-eq0-2) → live_refusal (data_of (start c.before).args.self) (add_segment (start c.before).args.t) ≡ 0
@@ -32,15 +32,14 @@ pub triple_refusal-number-requires : goal.triple_refusal-number-requires
 triple_refusal-number-requires c = (counted _ (passes _ _ c.first_number-number.ensures c.if-number-eq0.true)).segments
 
 pub bounds-chart-n : goal.bounds-chart-n
-bounds-chart-n c = adding-room _ (sized (start c.before)) (above segment) _ (accepts _ _ (zero c))
+bounds-chart-n c = adding-room _ (sized c.before.before.before.before) (above segment) _ (accepts _ _ (zero c))
 
 pub overflow_add-chart : goal.overflow_add-chart
-overflow_add-chart c = omega (arith, adding-room _ (sized (start c.before)) (above segment) _ (accepts _ _ (zero c)))
+overflow_add-chart c = omega (arith, adding-room _ (sized c.before.before.before.before) (above segment) _ (accepts _ _ (zero c)))
 
 pub returns-then-number-eq0-2 : goal.returns-then-number-eq0-2
 returns-then-number-eq0-2 c =
-    let o = c.before in
-    rw o.if-number-eq0-2.true (c.renewed-self.ensures _ (zero o) (adding-does _ (sized (start o.before)) (above segment) _ (accepts _ _ (zero o))))
+    rw c.if-number-eq0-2.true (c.renewed-self.ensures _ (zero c.before) (adding-does _ (sized c.before.before.before.before.before) (above segment) _ (accepts _ _ (zero c.before))))
 
 pub returns-else-number-eq0-2 : goal.returns-else-number-eq0-2
 returns-else-number-eq0-2 c = did-not _ _ _ (number_is c.before) c.if-number-eq0-2.false

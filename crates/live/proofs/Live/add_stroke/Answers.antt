@@ -24,7 +24,7 @@ number_is : (c : Joined-number-eq0) → c.if-number-eq0.number ≡ live_refusal 
 unfolding levels_of
 number_is c =
     answer-is _ _ _ _ c.first_number-number.ensures
-    (λ w. (w.0.true, λ good. w.2 ∙ w.1.ensures ∙ sym (adding-refused _ (sized (start c)) (counted _ good) stroke _)))
+    (λ w. (w.0.true, λ good. w.2 ∙ w.1.ensures ∙ sym (adding-refused _ (sized c.before.before.before) (counted _ good) stroke _)))
     (λ w. (w.0.false, w.1)) c.if-number-eq0.branch
 
 zero : (c : Then-number-eq0-2) → live_refusal (data_of (start c.before).args.self) (add_stroke (start c.before).args.s) ≡ 0
@@ -34,15 +34,14 @@ pub stroke_refusal-number-requires : goal.stroke_refusal-number-requires
 stroke_refusal-number-requires c = room _ (passes _ _ c.first_number-number.ensures c.if-number-eq0.true)
 
 pub bounds-chart-n : goal.bounds-chart-n
-bounds-chart-n c = adding-room _ (sized (start c.before)) stroke _ (accepts _ _ (zero c))
+bounds-chart-n c = adding-room _ (sized c.before.before.before.before) stroke _ (accepts _ _ (zero c))
 
 pub overflow_add-chart : goal.overflow_add-chart
-overflow_add-chart c = omega (arith, adding-room _ (sized (start c.before)) stroke _ (accepts _ _ (zero c)))
+overflow_add-chart c = omega (arith, adding-room _ (sized c.before.before.before.before) stroke _ (accepts _ _ (zero c)))
 
 pub returns-then-number-eq0-2 : goal.returns-then-number-eq0-2
 returns-then-number-eq0-2 c =
-    let o = c.before in
-    rw o.if-number-eq0-2.true (c.renewed-self.ensures _ (zero o) (adding-does _ (sized (start o.before)) stroke _ (accepts _ _ (zero o))))
+    rw c.if-number-eq0-2.true (c.renewed-self.ensures _ (zero c.before) (adding-does _ (sized c.before.before.before.before.before) stroke _ (accepts _ _ (zero c.before))))
 
 pub returns-else-number-eq0-2 : goal.returns-else-number-eq0-2
 returns-else-number-eq0-2 c = did-not _ _ _ (number_is c.before) c.if-number-eq0-2.false

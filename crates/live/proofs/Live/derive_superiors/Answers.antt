@@ -28,7 +28,7 @@ number_is : (c : Joined-number-eq0) → c.if-number-eq0.number ≡ live_refusal 
 unfolding refusal levels_of
 number_is c =
     answer-is _ _ _ _ c.first_number-number.ensures
-    (λ w. (w.0.true, λ good. w.2 ∙ w.1.ensures _ (as_long _ (sized (start c)) (counted _ good) (above superior))))
+    (λ w. (w.0.true, λ good. w.2 ∙ w.1.ensures _ (as_long _ (sized c.before.before.before) (counted _ good) (above superior))))
     (λ w. (w.0.false, w.1)) c.if-number-eq0.branch
 
 zero : (c : Then-number-eq0-2) → live_refusal (data_of (start c.before).args.self) (derive_superiors (start c.before).args.byte) ≡ 0
@@ -48,11 +48,9 @@ triples_of-triples-requires c = few c.before
 
 pub returns-then-number-eq0-2 : goal.returns-then-number-eq0-2
 returns-then-number-eq0-2 c =
-    let made = c.before in
-    let o = made.before.before in
-    let accepted = zero o.before in
-    rw o.if-number-eq0-2.true
-    (c.renewed-self.ensures _ accepted (superiors-does _ _ (accepts _ _ accepted) _ _ _ (few o) (found o).same made.triples_of-triples.ensures))
+    let accepted = zero c.before.before.before.before in
+    rw c.if-number-eq0-2.true
+    (c.renewed-self.ensures _ accepted (superiors-does _ _ (accepts _ _ accepted) _ _ _ (few c.before.before.before) (found c.before.before.before).same c.triples_of-triples.ensures))
 
 pub returns-else-number-eq0-2 : goal.returns-else-number-eq0-2
 returns-else-number-eq0-2 c = did-not _ _ _ (number_is c.before) c.if-number-eq0-2.false

@@ -23,14 +23,14 @@ start c = c.before.before.before
 number_is : (c : Joined-number-eq0) → c.if-number-eq0.number ≡ live_refusal (data_of (start c).args.self) (lengthen (start c).args.last)
 number_is c =
     answer-is _ _ _ _ c.first_number-number.ensures
-    (λ w. (w.0.true, λ good. w.3 ∙ w.2.ensures ∙ sym (lengthen-refused _ (sized (start c)) (counted _ good) _)))
+    (λ w. (w.0.true, λ good. w.3 ∙ w.2.ensures ∙ sym (lengthen-refused _ (sized c.before.before.before) (counted _ good) _)))
     (λ w. (w.0.false, w.1)) c.if-number-eq0.branch
 
 zero : (c : Then-number-eq0-2) → live_refusal (data_of (start c.before).args.self) (lengthen (start c.before).args.last) ≡ 0
 zero c = sym (number_is c.before) ∙ c.if-number-eq0-2.true
 
 there : (c : Then-number-eq0-2) → 1 ≤ (start c.before).args.self.chart.superior_count
-there c = some-superior _ (sized (start c.before)) _ (accepts _ _ (zero c))
+there c = some-superior _ (sized c.before.before.before.before) _ (accepts _ _ (zero c))
 
 pub lengthen_refusal-number-requires : goal.lengthen_refusal-number-requires
 lengthen_refusal-number-requires c =
@@ -44,8 +44,7 @@ bounds-chart-n c = (omega (arith, there c, (counted _ (accepts _ _ (zero c)).goo
 
 pub returns-then-number-eq0-2 : goal.returns-then-number-eq0-2
 returns-then-number-eq0-2 c =
-    let o = c.before.before in
-    rw o.if-number-eq0-2.true (c.renewed-self.ensures _ (zero o) (lengthen-does _ (sized (start o.before)) _ (accepts _ _ (zero o)) _))
+    rw c.if-number-eq0-2.true (c.renewed-self.ensures _ (zero c.before.before) (lengthen-does _ (sized c.before.before.before.before.before.before) _ (accepts _ _ (zero c.before.before)) _))
 
 pub returns-else-number-eq0-2 : goal.returns-else-number-eq0-2
 returns-else-number-eq0-2 c = did-not _ _ _ (number_is c.before) c.if-number-eq0-2.false

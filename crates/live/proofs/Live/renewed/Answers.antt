@@ -10,6 +10,5 @@ sized c = search (rules, length_via, sized_via)
 
 pub returns : goal.returns
 returns c =
-    let found = c in
     rw c.count_up.ensures
-    (renews found.args.self _ _ _ _ (sized found.before) found.detect_bigseg_zhongshus_by_overlap-found.ensures)
+    (renews c.args.self _ _ _ _ (sized c.before.before.before) c.detect_bigseg_zhongshus_by_overlap-found.ensures)

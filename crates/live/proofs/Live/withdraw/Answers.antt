@@ -29,8 +29,7 @@ shortened-requires c = accepts _ _ (zero c)
 
 pub returns-then-number-eq0-2 : goal.returns-then-number-eq0-2
 returns-then-number-eq0-2 c =
-    let o = c.before.before in
-    rw o.if-number-eq0-2.true (c.renewed-self.ensures _ (zero o) c.shortened.ensures)
+    rw c.if-number-eq0-2.true (c.renewed-self.ensures _ (zero c.before.before) c.shortened.ensures)
 
 pub returns-else-number-eq0-2 : goal.returns-else-number-eq0-2
 returns-else-number-eq0-2 c = did-not _ _ _ (number_is c.before) c.if-number-eq0-2.false
