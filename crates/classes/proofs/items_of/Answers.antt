@@ -66,7 +66,7 @@ pub returns-in_default : goal.returns-in_default
 returns-in_default c =
     let inv = c.loop-k.invariant in
     rw inv.5
-    (gathering-missing _ _ _ _ inv.6 _ (there c.before.before.before.before.before.before.before.before.before.before.before.before) _ (sym (read c.before.before) ∙ ap read_of c.in_default.is))
+    (gathering-missing _ _ _ _ inv.6 _ (there c.before.before.before.before.before.before.before.before.before.before.before) _ (sym (read c.before) ∙ ap read_of c.in_default.is))
 
 pub loop-k-preserved : goal.loop-k-preserved
 loop-k-preserved c =
@@ -81,7 +81,7 @@ loop-k-preserved c =
       inv.5,
       rw (item-more got.directions got.starts got.ends c.loop-k.k _ _ _ (omega (arith, inv.2, turn)) (omega (arith, inv.3, turn))
           (omega (arith, inv.4, turn)))
-          (gathering-there _ _ _ _ inv.6 _ (there c.before.before.before.before.before.before.before.before.before.before.before.before.before) _ (sym (read c.before.before.before) ∙ ap read_of c.in-There.is)),
+          (gathering-there _ _ _ _ inv.6 _ (there c.before.before.before.before.before.before.before.before.before.before.before) _ (sym (read c.before) ∙ ap read_of c.in-There.is)),
     )
 
 pub returns : goal.returns

@@ -40,7 +40,7 @@ loop-i-preserved-in_default c =
       omega arith,
       omega arith,
       c.loop-i.invariant.2,
-      carries-none _ _ _ _ _ _ _ c.loop-i.invariant.3 _ (here c.before.before.before.before.before.before) _
+      carries-none _ _ _ _ _ _ _ c.loop-i.invariant.3 _ (here c.before.before.before.before.before) _
           c.wanted-now.ensures _ c.loop-i-test.true _ c.case2-end.ensures _ c.tried-found.ensures
           (not-false _ c.if-not-next-i.false-raw) c.in_default.is,
     )
@@ -48,7 +48,7 @@ loop-i-preserved-in_default c =
 pub overflow_add-next : goal.overflow_add-next
 overflow_add-next c =
     let begins =
-    carries-begins _ _ _ _ _ _ _ c.loop-i.invariant.3 _ (here c.before.before.before.before.before.before.before.before) _
+    carries-begins _ _ _ _ _ _ _ c.loop-i.invariant.3 _ (here c.before.before.before.before.before.before) _
     c.wanted-now.ensures _ c.loop-i-test.true _ c.case2-end.ensures _ c.tried-found.ensures
     (not-false _ c.if-not-next-i.false-raw) _ c.in-Found.is in
     omega (arith, begins.2, c.requires)
@@ -60,7 +60,7 @@ loop-i-preserved c =
       omega (arith, c.loop-i.invariant),
       simp length-set c.loop-i.invariant.2,
       rw (one_more c.loop-i.rows c.loop-i.count _ room)
-          (carries-some _ _ _ _ _ _ _ c.loop-i.invariant.3 _ (here c.before.before.before.before.before.before.before.before) _
+          (carries-some _ _ _ _ _ _ _ c.loop-i.invariant.3 _ (here c.before.before.before.before.before.before) _
           c.wanted-now.ensures _ c.loop-i-test.true _ c.case2-end.ensures _ c.tried-found.ensures
           (not-false _ c.if-not-next-i.false-raw) _ c.in-Found.is),
     )
