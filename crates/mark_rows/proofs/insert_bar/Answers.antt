@@ -8,6 +8,7 @@ use borrow.Author.Rules.{rules}
 use Rattle.mark_rows.proofs.Bars.{inserted-none, inserted_new}
 use Rattle.mark_rows.proofs.insert_bar.Goals.{Joined-at-n, Start}
 use Rattle.mark_rows.proofs.insert_bar.Goals as goal
+use Rattle.mark_rows.proofs.insert_bar.Goals.{then-at-n+else-bars-at, else-at-n}
 
 long : (c : Start) → c.args.n ≤ length c.args.bars.now
 long c = omega arith
@@ -18,7 +19,7 @@ other :
     → let found = c.before in
     let args = found.args in
     found.bar_place-at.result < args.n → get_or args.bars.now found.bar_place-at.result 0 ≡ args.bar → ⊥
-other c h e = ⊎_elim (λ w. w.2.false e) (λ w. omega arith) c.if-at-n.branch
+other c h e = elim c.if-at-n.branch [ then-at-n+else-bars-at w ↦ w.if-bars-at.false e | else-at-n w ↦ omega arith ]
 
 pub start_at-start-requires : goal.start_at-start-requires
 start_at-start-requires c = (long c.before, c.requires.1, c.requires.2)
@@ -32,4 +33,4 @@ returns-then-bars-at c = record { bars_after = inserted-none _ _ _ _ c.requires.
 
 pub returns : goal.returns
 returns c = record { bars_after = c.put_in.ensures.bars_after
-          ∙ inserted_new _ _ _ _ c.requires.0 c.bar_place-at.ensures.upper_bound c.bar_place-at.ensures.all c.bar_place-at.ensures.bar_bound (other c.before.before.before.before); bars_len_unchanged = c.put_in.ensures.bars_len_unchanged; n_le_count = (omega arith, omega arith, omega arith); }
+          ∙ inserted_new _ _ _ _ c.requires.0 c.bar_place-at.ensures.upper_bound c.bar_place-at.ensures.all c.bar_place-at.ensures.bar_bound (other c.before.before.before.before.before); bars_len_unchanged = c.put_in.ensures.bars_len_unchanged; n_le_count = (omega arith, omega arith, omega arith); }

@@ -6,17 +6,7 @@ use borrow.Author.Rules.{rules}
 use Rattle.laws.proofs.Lists.{all_in}
 use Rattle.mark_rows.proofs.Gathered.{room_512}
 use Rattle.mark_rows.proofs.Numbers.{taken_at, Numbering, numbering-first, numbering-next, numbering-all}
-use Rattle.mark_rows.proofs.number_bars.Goals.{At-loop-i, In-loop-i}
 use Rattle.mark_rows.proofs.number_bars.Goals as goal
-
-few : (c : At-loop-i) → c.loop-i.count ≤ 512
-few c =
-    let inv = c.loop-i.invariant in
-    room_512 (inv.room c.requires.by_index.0 c.requires.by_index.1 c.requires.by_index.2) (omega (arith, inv.grown.long, c.requires.k_in_bounds))
-
-small : (c : In-loop-i) → get_or c.args.bars.now c.loop-i.i 0 < 0x1_0000
-small c =
-    all_in c.requires.by_index.1.small (taken_at _ c.loop-i.i _ 0 c.requires.by_index.2 c.loop-i-test.true c.requires.k_in_bounds.0)
 
 pub loop-i-init : goal.loop-i-init
 loop-i-init c = numbering-first _ _ _ _ _ _ _ c.requires.k_in_bounds.0 c.requires.k_in_bounds.2
@@ -24,10 +14,10 @@ loop-i-init c = numbering-first _ _ _ _ _ _ _ c.requires.k_in_bounds.0 c.require
 pub number_bar-numbered-requires : goal.number_bar-numbered-requires
 number_bar-numbered-requires c =
     let inv = c.loop-i.invariant in (
-      small c.before.before.before,
+      all_in c.requires.by_index.1.small (taken_at _ c.loop-i.i _ 0 c.requires.by_index.2 c.loop-i-test.true c.requires.k_in_bounds.0),
       omega (arith, inv.low, c.loop-i-test.true, c.requires.k_in_bounds),
       omega (arith, inv.grown.more, c.requires.k_in_bounds),
-      few c.before.before.before.before,
+      room_512 (inv.room c.requires.by_index.0 c.requires.by_index.1 c.requires.by_index.2) (omega (arith, inv.grown.long, c.requires.k_in_bounds)),
       omega (arith, inv.grown.long, c.requires.k_in_bounds),
       omega (arith, inv.grown.wide, c.requires.k_in_bounds),
     )

@@ -6,4 +6,4 @@ pub put_row-requires : goal.put_row-requires
 put_row-requires c = record { n_bound = c.requires; i_value = c.place_of-i.ensures.value; }
 
 pub returns : goal.returns
-returns c = let whole = c.put_row.ensures in record { pushes = whole.0; keeps_room = whole.1.0; grown = whole.1.1; }
+returns c = record { pushes = c.put_row.ensures.pushes; keeps_room = c.put_row.ensures.keeps_room; grown = c.put_row.ensures.grown; }

@@ -13,4 +13,4 @@ put_row-count-requires c =
     let pre = c.requires in record { n_bound = (pre.0, pre.1, pre.2); i_value = c.place_near-place.ensures; }
 
 pub returns : goal.returns
-returns c = let whole = c.put_row-count.ensures in record { pushes = whole.0; keeps_room = whole.1.0; grown = whole.1.1; }
+returns c = record { pushes = c.put_row-count.ensures.pushes; keeps_room = c.put_row-count.ensures.keeps_room; grown = c.put_row-count.ensures.grown; }

@@ -32,6 +32,6 @@ few c = omega (arith, below c, c.requires.fits.0.superiors)
 pub returns : goal.returns
 returns c =
     let pre = c.requires in
-    zone-scan _ _ _ _ _ _ _ _ _ (below c.before.before.before.before.before.before.before.before.before.before.before.before) refl c.wide-first.ensures.0 c.wide-last.ensures.0 c.args.at pre.0.1
-    c.wide-owner.ensures.0 _ _ _ c.zone_limit-near.result c.reversal-turn.result _ _ pre.1.1 c.search_from-begin.ensures
+    zone-scan _ _ _ _ _ _ _ _ _ (below c.before.before.before.before.before.before.before.before.before.before.before.before) refl c.wide-first.ensures.0 c.wide-last.ensures.0 c.args.at pre.fits.1
+    c.wide-owner.ensures.0 _ _ _ c.zone_limit-near.result c.reversal-turn.result _ _ pre.scanned_to c.search_from-begin.ensures
     c.start_of-from.ensures.starts_at c.zone_limit-near.ensures c.reversal-turn.ensures c.smaller_limit.ensures c.wide.ensures.0

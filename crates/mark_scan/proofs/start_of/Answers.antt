@@ -24,18 +24,18 @@ pub loop-k-preserved-in_default : goal.loop-k-preserved-in_default
 loop-k-preserved-in_default c =
     let inv = c.loop-k.invariant in
     let missing = sym c.range_at.ensures ∙ c.in_default.is in
-    (inv.0, inv.1, inv.2, λ l t. start-missing _ _ _ _ _ c.loop-k.k l t _ (inv.3 l t) (within c.before.before.before).0 (within c.before.before.before).1 missing)
+    (inv.0, inv.1, inv.2, λ l t. start-missing _ _ _ _ _ c.loop-k.k l t _ (inv.3 l t) (within c.before.before).0 (within c.before.before).1 missing)
 
 pub returns-then-e-span : goal.returns-then-e-span
 returns-then-e-span c =
     let inv = c.loop-k.invariant in
-    let found = sym c.range_at.ensures ∙ c.in-Found.is in record { upper_bound = omega (arith, (within c.before.before.before.before.before.before).1); starts_at = λ l t. start-here _ _ _ _ _ c.loop-k.k l t _ (inv.3 l t) (within c.before.before.before.before.before.before).0 (within c.before.before.before.before.before.before).1 _ found c.if-e-span.true; }
+    let found = sym c.range_at.ensures ∙ c.in-Found.is in record { upper_bound = omega (arith, (within c.before.before.before.before).1); starts_at = λ l t. start-here _ _ _ _ _ c.loop-k.k l t _ (inv.3 l t) (within c.before.before.before.before).0 (within c.before.before.before.before).1 _ found c.if-e-span.true; }
 
 pub loop-k-preserved : goal.loop-k-preserved
 loop-k-preserved c =
     let inv = c.loop-k.invariant in
     let found = sym c.range_at.ensures ∙ c.in-Found.is in
-    (inv.0, inv.1, inv.2, λ l t. start-pass _ _ _ _ _ c.loop-k.k l t _ (inv.3 l t) (within c.before.before.before.before.before.before).0 (within c.before.before.before.before.before.before).1 _ found c.if-e-span.false)
+    (inv.0, inv.1, inv.2, λ l t. start-pass _ _ _ _ _ c.loop-k.k l t _ (inv.3 l t) (within c.before.before.before.before).0 (within c.before.before.before.before).1 _ found c.if-e-span.false)
 
 pub returns : goal.returns
 returns c =

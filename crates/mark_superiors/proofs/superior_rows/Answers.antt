@@ -19,7 +19,7 @@ head c = c.before.before
 
 -- the bars of a superior as they are then
 abbrev bars-of : After-superior_bars-taken → List ℕ
-bars-of c = c.superior_bars-taken.new.1.1.1.1.1.1.0
+bars-of c = c.superior_bars-taken.new.out
 
 pub loop-i-init : goal.loop-i-init
 loop-i-init c = numbered-first _ _ _ _ _ _ _ _ _ refl

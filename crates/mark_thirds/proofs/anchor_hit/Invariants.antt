@@ -17,8 +17,8 @@ use Rattle.mark_thirds.proofs.anchor_hit.Given as goal
 abbrev pub invariant-loop-k : goal.invariant-loop-k
 invariant-loop-k l =
     (c : Levels) → Bigs c l.side.bigs l.bars l.prices
-    → find (beats (record { l.highs = l.highs; l.lows = l.lows }) l.side.buy l.p) (end_bars_in c l.side.buy l.bar (drop l.from c.bigs))
-    ≡ find (beats (record { l.highs = l.highs; l.lows = l.lows }) l.side.buy l.p) (end_bars_in c l.side.buy l.bar (drop l.k c.bigs))
+    → find (beats (record { highs = l.highs; lows = l.lows }) l.side.buy l.p) (end_bars_in c l.side.buy l.bar (drop l.from c.bigs))
+    ≡ find (beats (record { highs = l.highs; lows = l.lows }) l.side.buy l.p) (end_bars_in c l.side.buy l.bar (drop l.k c.bigs))
 
 abbrev pub decreases-loop-k : goal.decreases-loop-k
 decreases-loop-k l = l.side.bigs - l.k

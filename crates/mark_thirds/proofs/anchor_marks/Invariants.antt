@@ -23,7 +23,7 @@ abbrev pub invariant-loop-i : goal.invariant-loop-i
 invariant-loop-i l =
     (l.i ≤ l.n) × (l.found ≤ l.count) × (l.count ≤ l.found + l.i) × (length l.keys ≡ length l.initial.keys) × (length l.marks ≡ 512)
     × ((c : Levels) (l : List ThirdMark) → Bigs c l.side.bigs l.bars l.prices → Marked l.found l.found l.initial.keys l.initial.marks l
-    → Marked l.found l.count l.keys l.marks (foldl add_third l (each (anchor_third c (record { l.highs = l.highs; l.lows = l.lows }) l.side.buy) (take l.i (anchors_in c l.side)))))
+    → Marked l.found l.count l.keys l.marks (foldl add_third l (each (anchor_third c (record { highs = l.highs; lows = l.lows }) l.side.buy) (take l.i (anchors_in c l.side)))))
 
 abbrev pub decreases-loop-i : goal.decreases-loop-i
 decreases-loop-i l = l.n - l.i

@@ -21,7 +21,7 @@ abbrev pub invariant-loop-i : goal.invariant-loop-i
 invariant-loop-i l =
     (l.zoned ≤ l.i) × (l.i ≤ l.counts.zones) × (length l.keys ≡ length l.initial.keys) × (length l.marks ≡ 512)
     × ((c : Levels) (zb : List (List ℕ)) → Tables c l.counts l.bars l.prices l.sups zb l.zp → Scanned c l.counts l.bars l.prices l.sups l.scans
-    → Marked 512 l.zoned l.keys l.marks (foldl add_third [] (each (zone_third c (record { l.highs = l.highs; l.lows = l.lows }) (overlap_zones c)) (take l.i (overlap_zones c)))))
+    → Marked 512 l.zoned l.keys l.marks (foldl add_third [] (each (zone_third c (record { highs = l.highs; lows = l.lows }) (overlap_zones c)) (take l.i (overlap_zones c)))))
 
 abbrev pub decreases-loop-i : goal.decreases-loop-i
 decreases-loop-i l = l.counts.zones - l.i

@@ -47,7 +47,6 @@ pub thirds_of-found-requires : goal.thirds_of-found-requires
 thirds_of-found-requires c =
     ((c.tables_of-begun.ensures.tables c.if-begun-ne0.false).fits, (short c.before.before.before.before.before.before.before.before.before.before.before.before.before.before).0, (short c.before.before.before.before.before.before.before.before.before.before.before.before.before.before).1, (omega arith, refl))
 
--- CONVERT clauses ['n_bound', 'all']
 pub rows_of-requires : goal.rows_of-requires
 rows_of-requires c =
     let t = c.tables_of-begun.ensures.tables c.if-begun-ne0.false in

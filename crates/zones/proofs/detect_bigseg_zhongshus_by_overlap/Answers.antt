@@ -13,9 +13,10 @@ returns-then-begun-ne0 c = c.refusal.ensures ∙ (zones_by _ _ c.tables_of-begun
 
 pub rows_of-requires : goal.rows_of-requires
 rows_of-requires c =
-    let made = c.tables_of-begun in record { n_bound = (made.ensures.1.0 c.if-begun-ne0.false).fits.zones; all = made.ensures.1.1; }
+    let made = c.tables_of-begun in
+    ((made.ensures.tables c.if-begun-ne0.false).fits.zones, made.ensures.wide)
 
 pub returns : goal.returns
 returns c =
     let made = c.tables_of-begun.ensures in
-    c.rows_of.ensures ∙ ap given (made.1.0 c.if-begun-ne0.false).zones.are ∙ (zones_by _ _ made.0).1 c.if-begun-ne0.false
+    c.rows_of.ensures ∙ ap given (made.tables c.if-begun-ne0.false).zones.are ∙ (zones_by _ _ made.number_value).1 c.if-begun-ne0.false

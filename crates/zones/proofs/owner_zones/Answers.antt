@@ -31,14 +31,14 @@ loop-at-preserved-then-not-next c =
       inv.0,
       goes_on _ _ _ _ _ _ _ _ _ _ _ _ _ _ _ inv.1 c.loop-at-test.true (λ e. c.if-way_at-direction.false (c.way_at.ensures ∙ e)) _
           (sym c.range_at.ensures ∙ c.in-Found.is) c.take_member-next.result.closed c.take_member-next.result.run
-          c.take_member-next.ensures (not-true _ c.if-not-next.true),
+          (c.take_member-next.ensures.members_bound, c.take_member-next.ensures.takes) (not-true _ c.if-not-next.true),
     )
 
 pub returns-then-count-eq256 : goal.returns-then-count-eq256
 returns-then-count-eq256 c =
     let inv = c.loop-at.invariant in record { upper_bound = (omega arith, inv.1.wide); owner_zones = no_room _ _ _ _ _ _ _ _ _ _ _ _ _ _ _ inv.1 c.loop-at-test.true (λ e. c.if-way_at-direction.false (c.way_at.ensures ∙ e)) _
           (sym c.range_at.ensures ∙ c.in-Found.is) c.take_member-next.result.closed c.take_member-next.result.run
-          c.take_member-next.ensures (not-false _ c.if-not-next.false) c.if-count-eq256.true; }
+          (c.take_member-next.ensures.members_bound, c.take_member-next.ensures.takes) (not-false _ c.if-not-next.false) c.if-count-eq256.true; }
 
 pub put_zone-requires : goal.put_zone-requires
 put_zone-requires c =
@@ -56,7 +56,7 @@ loop-at-preserved c =
       inv.0,
       puts_one _ _ _ _ _ _ _ _ _ _ _ _ _ _ _ inv.1 c.loop-at-test.true (λ e. c.if-way_at-direction.false (c.way_at.ensures ∙ e)) _
           (sym c.range_at.ensures ∙ c.in-Found.is) c.take_member-next.result.closed c.take_member-next.result.run
-          c.take_member-next.ensures _ _ (not-false _ c.if-not-next.false) c.if-count-eq256.false c.put_zone.ensures,
+          (c.take_member-next.ensures.members_bound, c.take_member-next.ensures.takes) _ _ (not-false _ c.if-not-next.false) c.if-count-eq256.false c.put_zone.ensures,
     )
 
 pub returns-then-not-begun : goal.returns-then-not-begun

@@ -35,18 +35,18 @@ good c = sym c.bigs_of.ensures.value ∙ c.if-bigs_of.false
 -- the tables of its bigs, superiors and zones
 bigs :
     (c : Else-bigs_of)
-    → Bigs (levels_of (start c).args.chart) (start c).args.chart.big_count c.bigs_of.new.1.0 c.bigs_of.new.1.1.0
+    → Bigs (levels_of (start c).args.chart) (start c).args.chart.big_count c.bigs_of.new.bars c.bigs_of.new.prices
 bigs c = c.bigs_of.ensures.bigs c.if-bigs_of.false
 
 superiors :
     (c : After-superiors_of)
-    → Sups (levels_of (start (else1 (else2 c))).args.chart) (start (else1 (else2 c))).args.chart.superior_count c.superiors_of.new.1.1.1.1.0
+    → Sups (levels_of (start (else1 (else2 c))).args.chart) (start (else1 (else2 c))).args.chart.superior_count c.superiors_of.new.sups
 unfolding levels_of
 superiors c = c.superiors_of.ensures _ _ (bigs c.before.before.before.before.before.before) refl
 
 zones :
     (c : After-overlap-count)
-    → Filled c.overlap-count.result c.overlap-count.new.1.1.1.1.1.0 c.overlap-count.new.1.1.1.1.1.1.0
+    → Filled c.overlap-count.result c.overlap-count.new.zb c.overlap-count.new.zp
     (overlap_zones (levels_of (start (else1 (else2 (listed c)))).args.chart))
 unfolding overlap_zones
 zones c =
