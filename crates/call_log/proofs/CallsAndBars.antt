@@ -6,7 +6,7 @@ use mathlib.Core.List.{List, [], ◌∷◌, ◌++◌}
 use lib.ListN.{length}
 use lib.Ieee.{Float}
 use Rattle.rules.specs.Machine.{Call}
-use Rattle.log.specs.Log.{Entry, call, bar, calls_in, bars_in}
+use Rattle.call_log.specs.Log.{Entry, call, bar, calls_in, bars_in}
 
 pub calls_call : (es : List Entry) (k : Call) → calls_in (es ++ (call k ∷ [])) ≡ calls_in es ++ (k ∷ [])
 unfolding calls_in

@@ -12,7 +12,7 @@ use Rattle.rules.specs.Machine.{Call, add_stroke, add_segment, add_big, add_supe
 use Rattle.rules.proofs.Computing.{everything}
 use Rattle.rules.proofs.Charts.{price, minus_zero, triple, with_roll, rolled}
 use Rattle.rules.proofs.MachineFacts.{priced}
-use Rattle.log.specs.Log.{Entry, call, bar, forms, form_of, counted, good, form_at, in_front, spelled_from, spelled, calls_in, bars_in}
+use Rattle.call_log.specs.Log.{Entry, call, bar, forms, form_of, counted, good, form_at, in_front, spelled_from, spelled, calls_in, bars_in}
 
 -- a stroke from bar 258 to 5 with the bits of its prices, not rolled
 abbrev stroke_call : ℕ → ℕ → List ℕ

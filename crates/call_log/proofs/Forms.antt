@@ -11,8 +11,8 @@ use Rattle.rules.specs.Text.{ascii}
 use Rattle.rules.specs.File.{number, stroke_in}
 use Rattle.laws.proofs.Lists.{nil, cons, find_none}
 use Rattle.laws.proofs.FileCode.{one_at}
-use Rattle.log.specs.Log.{Form, forms, form_of}
-use Rattle.log.specs.Entries.{width_by, entry_by}
+use Rattle.call_log.specs.Log.{Form, forms, form_of}
+use Rattle.call_log.specs.Entries.{width_by, entry_by}
 
 -- another letter
 pub no_form :

@@ -8,9 +8,9 @@ use mathlib.Core.Option.{none, some}
 use Rattle.rules.specs.Lists.{and_then}
 use Rattle.rules.specs.File.{price}
 use Rattle.rules.specs.Text.{ascii}
-use Rattle.log.specs.Log.{bar, Form, form, forms, form_of, counted, good, form_at, spelled_from, spelled}
-use Rattle.log.specs.Entries.{bad_at}
-use Rattle.log.proofs.Steps.{good-yes, good-many, form-by, pass_over, front_bad}
+use Rattle.call_log.specs.Log.{bar, Form, form, forms, form_of, counted, good, form_at, spelled_from, spelled}
+use Rattle.call_log.specs.Entries.{bad_at}
+use Rattle.call_log.proofs.Steps.{good-yes, good-many, form-by, pass_over, front_bad}
 
 -- the form of a bar
 abbrev bar_form : Form

@@ -15,8 +15,8 @@ use Rattle.rules.specs.File.{number, price, stroke_in}
 use Rattle.rules.specs.Machine.{add_stroke, add_segment, add_big, add_superior, lengthen, withdraw, derive_bigs, derive_superiors}
 use Rattle.laws.proofs.Lists.{All, nil, cons, all-find}
 use Rattle.laws.proofs.FileLong.{number_in, triple_in_lem, stroke_in_lem}
-use Rattle.log.specs.Log.{call, bar, Form, forms, form_of, counted, good, form_at, spelled_from, spelled}
-use Rattle.log.proofs.Steps.{good-late, form-by, form-good}
+use Rattle.call_log.specs.Log.{call, bar, Form, forms, form_of, counted, good, form_at, spelled_from, spelled}
+use Rattle.call_log.proofs.Steps.{good-late, form-by, form-good}
 
 -- what stands behind the fields of an entry does not matter
 abbrev Decided : Form → Type 0

@@ -20,10 +20,10 @@ use Rattle.laws.proofs.Tests.{none-some, and_l, and_r}
 use Rattle.laws.proofs.Lists.{All, nil, cons, all-find}
 use Rattle.laws.proofs.FileSteps.{refused_given}
 use Rattle.laws.proofs.FileCode.{part}
-use Rattle.log.specs.declared.LogEntry.{LogEntry}
-use Rattle.log.specs.declared.LogEntry.TheVariants as entry
-use Rattle.log.specs.Log.{Entry, call, bar, Form, forms, form_of, counted, good, form_at, in_front, spelled_from, spelled}
-use Rattle.log.specs.Entries.{entry_of, bad_at, width_by, entry_by, counted_by, rest_of, EntryAt, Told}
+use Rattle.call_log.specs.declared.LogEntry.{LogEntry}
+use Rattle.call_log.specs.declared.LogEntry.TheVariants as entry
+use Rattle.call_log.specs.Log.{Entry, call, bar, Form, forms, form_of, counted, good, form_at, in_front, spelled_from, spelled}
+use Rattle.call_log.specs.Entries.{entry_of, bad_at, width_by, entry_by, counted_by, rest_of, EntryAt, Told}
 
 -- ---- the form of an entry
 

@@ -3,11 +3,11 @@ use Rattle.std.specs.Prelude.{ℕ, ◌<◌, ◌≤◌, ◌≡◌, List, length, 
 use Rattle.std.proofs.Math.Option.{Option, none, some}
 use Rattle.rules.specs.Answer.{AnswerBy, refused, given}
 use Rattle.rules.specs.Machine.{call_of}
-use Rattle.log.specs.declared.LogEntry.{LogEntry}
-use Rattle.log.specs.declared.Place.{Place}
-use Rattle.log.specs.declared.LogEntry.TheVariants as entry
-use Rattle.log.specs.declared.Place.TheVariants as place
-use Rattle.log.specs.Log.{Entry, call, bar, Form, counted, in_front, spelled_from}
+use Rattle.call_log.specs.declared.LogEntry.{LogEntry}
+use Rattle.call_log.specs.declared.Place.{Place}
+use Rattle.call_log.specs.declared.LogEntry.TheVariants as entry
+use Rattle.call_log.specs.declared.Place.TheVariants as place
+use Rattle.call_log.specs.Log.{Entry, call, bar, Form, counted, in_front, spelled_from}
 
 -- the entry that is read, none standing for a bad one
 abbrev pub entry_of : LogEntry → Option Entry

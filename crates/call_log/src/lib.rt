@@ -4,8 +4,8 @@
 
 ghost use Rattle.std.specs.Prelude.{◌≡◌, ◌≤◌, ◌<◌, length};
 ghost use Rattle.std.proofs.Math.Option.{none};
-ghost use Rattle.log.specs.Log.{form_of, spelled};
-ghost use Rattle.log.specs.Entries.{entry_of, place_of, bad_at, width_by, entry_by, counted_by, Told};
+ghost use Rattle.call_log.specs.Log.{form_of, spelled};
+ghost use Rattle.call_log.specs.Entries.{entry_of, place_of, bad_at, width_by, entry_by, counted_by, Told};
 
 use chart::Call;
 

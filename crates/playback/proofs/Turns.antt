@@ -15,10 +15,10 @@ use Rattle.live.specs.declared.Live.{Live}
 use Rattle.live.specs.Did.{Did, Nothing}
 use Rattle.live.specs.Sequence.{Chain, done, next}
 use Rattle.live.proofs.Chained.{sequence}
-use Rattle.log.specs.Log.{Entry, call, bar, counted, spelled, calls_in, bars_in}
-use Rattle.log.specs.Entries.{bad_at, rest_of, Told}
-use Rattle.log.proofs.Steps.{Stepped, step, ends, bad_says, nowhere_says, few_entries}
-use Rattle.log.proofs.CallsAndBars.{calls_call, calls_bar, bars_call, highs_bar, lows_bar, calls_few}
+use Rattle.call_log.specs.Log.{Entry, call, bar, counted, spelled, calls_in, bars_in}
+use Rattle.call_log.specs.Entries.{bad_at, rest_of, Told}
+use Rattle.call_log.proofs.Steps.{Stepped, step, ends, bad_says, nowhere_says, few_entries}
+use Rattle.call_log.proofs.CallsAndBars.{calls_call, calls_bar, bars_call, highs_bar, lows_bar, calls_few}
 use Rattle.playback.specs.Replays.{Replays}
 
 -- one call more

@@ -3,7 +3,7 @@ use Rattle.std.specs.Prelude.{ℕ, ◌≡◌, true, false, List, length, take}
 use Rattle.rules.specs.Answer.{AnswerBy, refused, given}
 use Rattle.live.specs.Did.{Nothing}
 use Rattle.live.specs.Sequence.{AsMachine}
-use Rattle.log.specs.Log.{Entry, spelled, calls_in, bars_in}
+use Rattle.call_log.specs.Log.{Entry, spelled, calls_in, bars_in}
 use Rattle.playback.specs.declared.Replayed.{Replayed}
 
 -- where an entry is bad: the place of its letter. Nothing is run, so there is no answer, no bar and nothing in the chart

@@ -4,8 +4,8 @@
 
 ghost use Rattle.std.specs.Prelude.{◌≡◌};
 ghost use Rattle.std.proofs.Math.Option.{none};
-ghost use Rattle.log.specs.Log.{spelled};
-ghost use Rattle.log.specs.Entries.{bad_at};
+ghost use Rattle.call_log.specs.Log.{spelled};
+ghost use Rattle.call_log.specs.Entries.{bad_at};
 ghost use Rattle.playback.specs.Replays.{Replays};
 
 use live::Live;

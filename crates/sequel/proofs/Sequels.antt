@@ -8,8 +8,8 @@ use Rattle.rules.specs.Answer.{AnswerBy, refused, given, rows_answer}
 use Rattle.rules.specs.Records.{Quotes}
 use Rattle.rules.specs.Calls.{third_call, n_call}
 use Rattle.live.specs.Sequence.{done}
-use Rattle.log.specs.Log.{Entry, spelled, calls_in, bars_in}
-use Rattle.log.proofs.CallsAndBars.{as_many}
+use Rattle.call_log.specs.Log.{Entry, spelled, calls_in, bars_in}
+use Rattle.call_log.proofs.CallsAndBars.{as_many}
 use Rattle.playback.specs.declared.Replayed.{Replayed}
 use Rattle.playback.specs.Replays.{Outcome, Replays}
 use Rattle.promise.specs.Promise.{Promise}

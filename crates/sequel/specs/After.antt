@@ -4,7 +4,7 @@ use Rattle.std.specs.Prelude.{ℕ, List, [], take}
 use Rattle.rules.specs.Answer.{AnswerBy, refused, given}
 use Rattle.rules.specs.Records.{Quotes}
 use Rattle.rules.specs.Machine.{Call}
-use Rattle.log.specs.Log.{Entry, spelled, calls_in, bars_in}
+use Rattle.call_log.specs.Log.{Entry, spelled, calls_in, bars_in}
 use Rattle.playback.specs.Replays.{Replays}
 use Rattle.promise.specs.Promise.{levels_in, Promise, Thirds, ThreeN}
 use Rattle.sequel.specs.declared.Sequel.{Sequel}

@@ -8,10 +8,10 @@ use Rattle.bars_read.proofs.scan.Goals.{After-head_of-head, At-loop-at, Start}
 use Rattle.bars_read.proofs.scan.Goals as goal
 
 abbrev at-loop : After-head_of-head → At-loop-at
-at-loop c = c.before.before.before
+at-loop c = c.before.before.before.before
 
 abbrev start : After-head_of-head → Start
-start c = c.before.before.before.before.before
+start c = c.before.before.before.before.before.before
 
 turn :
     (c : After-head_of-head)

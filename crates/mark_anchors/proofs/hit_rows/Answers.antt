@@ -12,16 +12,16 @@ use Rattle.mark_anchors.proofs.hit_rows.Goals as goal
 
 -- the places of the code that the proof goes back to
 abbrev start : At-loop-k → Start
-start c = c.before.before.before.before.before
+start c = c.before.before.before.before.before.before
 
 abbrev head_of : After-next_end-end → At-loop-k
-head_of c = c.before.before.before
+head_of c = c.before.before.before.before
 
 abbrev end_of : After-reached → After-next_end-end
-end_of c = c.before.before.before.before
+end_of c = c.before.before.before
 
 abbrev reached_of : After-is_hit → After-reached
-reached_of c = c.before.before.before
+reached_of c = c.before.before.before.before
 
 -- where the next end lies, and how many rows there are
 later :

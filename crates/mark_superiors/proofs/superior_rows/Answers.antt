@@ -15,7 +15,7 @@ abbrev begun : At-loop-i → Start
 begun c = c.before.before.before
 
 abbrev head : In-loop-i → At-loop-i
-head c = c.before.before
+head c = c.before.before.before
 
 -- the bars of a superior as they are then
 abbrev bars-of : After-superior_bars-taken → List ℕ
@@ -57,7 +57,7 @@ loop-i-preserved c =
     let rows = c.number_bars-count.ensures in
     let block = c.superior_bars-taken.result in
     let got = c.superior_bars-taken.ensures in
-    numbered_next _ _ _ _ _ _ _ _ _ _ _ _ _ _ c.loop-i.invariant c.loop-i-test.true block.count block.next (bars-of c.before.before.before.before.before.before.before.before.before.before)
+    numbered_next _ _ _ _ _ _ _ _ _ _ _ _ _ _ c.loop-i.invariant c.loop-i-test.true block.count block.next (bars-of c.before.before.before.before.before.before.before.before.before.before.before)
     got.takes_block _ _ _ _ got.count_bound.1 rows.numbers_bars rows.keeps_room rows.grown refl
 
 pub returns : goal.returns

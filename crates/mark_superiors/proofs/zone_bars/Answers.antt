@@ -34,7 +34,7 @@ pub insert_bar-put-requires : goal.insert_bar-put-requires
 insert_bar-put-requires c =
     let chart = c.requires.bigs in
     let inv = c.loop-at.invariant in
-    (omega (arith, few c.before.before.before.before.before.before, inv.wide), inv.hinted, (inv.among chart.0 chart.1 chart.2).rising)
+    (omega (arith, few c.before.before.before.before, inv.wide), inv.hinted, (inv.among chart.0 chart.1 chart.2).rising)
 
 pub loop-at-smaller : goal.loop-at-smaller
 loop-at-smaller c =
