@@ -1,0 +1,14 @@
+use Prim.Native.Nat.{suc, ◌+◌, ◌≤◌}
+use native.Mathlib.Omega.{arith}
+use mathlib.Core.Path.{◌≡◌}
+use lib.ListN.{length}
+use borrow.Author.Rules.{rules}
+use Rattle.rules.specs.Text.{decimal}
+use Rattle.text.proofs.Digits.{decimal_one, decimal_more}
+use Rattle.text.proofs.decimal_count.Given as goal
+
+abbrev pub invariant-loop-rest : goal.invariant-loop-rest
+invariant-loop-rest l = (l.count + l.rest ≤ suc l.n) × (l.count + length (decimal l.rest) ≡ suc (length (decimal l.n)))
+
+abbrev pub decreases-loop-rest : goal.decreases-loop-rest
+decreases-loop-rest l = l.rest
