@@ -1,10 +1,5 @@
 -- `text::decimal_count` meets its contract. The invariant: the digits counted, and those of the rest but one, are all. Assumes nothing.
-use Prim.Native.Nat.{suc, ◌+◌, ◌≤◌}
 use native.Mathlib.Omega.{arith}
-use mathlib.Core.Path.{◌≡◌}
-use lib.ListN.{length}
-use borrow.Author.Rules.{rules}
-use Rattle.rules.specs.Text.{decimal}
 use Rattle.text.proofs.Digits.{decimal_one, decimal_more}
 use Rattle.text.proofs.decimal_count.Goals as goal
 

@@ -1,10 +1,7 @@
 use Prim.Native.Nat.{suc, ◌+◌, ◌≤◌}
-use native.Mathlib.Omega.{arith}
 use mathlib.Core.Path.{◌≡◌}
 use lib.ListN.{length}
-use borrow.Author.Rules.{rules}
 use Rattle.rules.specs.Text.{decimal}
-use Rattle.text.proofs.Digits.{decimal_one, decimal_more}
 use Rattle.text.proofs.decimal_count.Given as goal
 
 abbrev pub invariant-loop-rest : goal.invariant-loop-rest

@@ -1,8 +1,7 @@
 -- `text::put_digits` meets its contract. The invariant: the digits of the rest are left, before those that are put. Assumes nothing.
 use native.Mathlib.Omega.{arith}
 use native.Mathlib.Nat.{mod-lt}
-use borrow.Author.Rules.{rules}
-use Rattle.text.proofs.Digits.{Back, back-next, back-all}
+use Rattle.text.proofs.Digits.{back-next, back-all}
 use Rattle.text.proofs.put_digits.Goals as goal
 
 pub digit-requires : goal.digit-requires

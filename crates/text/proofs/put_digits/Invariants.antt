@@ -1,7 +1,4 @@
-use native.Mathlib.Omega.{arith}
-use native.Mathlib.Nat.{mod-lt}
-use borrow.Author.Rules.{rules}
-use Rattle.text.proofs.Digits.{Back, back-next, back-all}
+use Rattle.text.proofs.Digits.{Back}
 use Rattle.text.proofs.put_digits.Given as goal
 
 abbrev pub invariant-loop-left : goal.invariant-loop-left
