@@ -4,10 +4,12 @@
 
 ghost use Rattle.std.specs.Prelude.{◌≤◌};
 
+use std::env::Env;
+
 // An argument of at most eight bytes, with zeros behind it.
-pub fn word(i: usize) -> [u8; 8] {
+pub fn word<R: Env>(rt: &R, i: usize) -> [u8; 8] {
     let mut bytes = [0u8; 8];
-    os::arg(i, &mut bytes);
+    let _ = rt.arg(i, &mut bytes);
     bytes
 }
 

@@ -33,7 +33,7 @@ fn put_bar(out: &mut [u8], number: u16, high: f64, low: f64)
     ensures { out.new ≡ fill (bar_bytes (record { number = number; high = high; low = low })) out.old }
 {
     let bytes = bar_bytes(number, high, low);
-    bytes::copy(&bytes, out);
+    out[..20].copy_from_slice(&bytes);
 }
 
 // Writes the bars from the buffer's start on, and gives how many bytes they take. The part that starts at a record's place is lent for it.

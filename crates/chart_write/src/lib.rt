@@ -82,7 +82,7 @@ fn put_stroke(out: &mut [u8], s: Stroke)
     ensures { out.new ≡ fill (record_bytes (stroke s)) out.old }
 {
     let bytes = stroke_bytes(s);
-    bytes::copy(&bytes, out);
+    out[..23].copy_from_slice(&bytes);
 }
 
 fn put_triple(out: &mut [u8], a: u8, b: u8, t: Triple)
@@ -90,7 +90,7 @@ fn put_triple(out: &mut [u8], a: u8, b: u8, t: Triple)
     ensures { out.new ≡ fill (marked a b t) out.old }
 {
     let bytes = triple_bytes(a, b, t);
-    bytes::copy(&bytes, out);
+    out[..7].copy_from_slice(&bytes);
 }
 
 // ---- one level. Each of these writes its records into the buffer from place `at` on, and gives the place behind them.

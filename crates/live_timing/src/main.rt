@@ -8,6 +8,8 @@ ghost use Rattle.std.specs.Prelude.{◌<◌};
 
 use chart::{Chart, Stroke, Triple};
 use live::{Answered, Live};
+use std::io;
+use std::io::Write;
 
 fn add_strokes(b: Live, rows: [Stroke; 512], count: u16) -> Live {
     let mut live = b;
@@ -113,22 +115,22 @@ fn sum_of(name: [u8; 8], chart: Chart, turns: u32) -> u16 {
 }
 
 // The sum of the turns on a chart file, or `refused N at P` alone.
-fn print_sum(file: &[u8], name: [u8; 8], turns: u32) {
+fn print_sum<W: Write>(out: &mut W, file: &[u8], name: [u8; 8], turns: u32) -> io::Result<()> {
     let read = chart_read::read_chart(file);
     if read.number != 0 {
-        printing::print_refused(read.number, read.place);
-        return;
+        return printing::print_refused(out, read.number, read.place);
     }
     let chart = read.chart;
-    printing::print_head(b"SUM", 0, sum_of(name, chart, turns));
+    printing::print_head(out, b"SUM", 0, sum_of(name, chart, turns))
 }
 
-fn main() {
+fn main(rt: HostRuntime) -> io::Result<()> {
     let mut chart = files::chart_room();
-    let n = files::read_file(b"chart.dat", &mut chart);
+    let n = files::read_file(&rt, b"chart.dat", &mut chart);
     print_sum(
+        &mut io::writer(&rt),
         &chart[..n],
-        arguments::word(1),
-        arguments::number(arguments::word(2)),
-    );
+        arguments::word(&rt, 1),
+        arguments::number(arguments::word(&rt, 2)),
+    )
 }

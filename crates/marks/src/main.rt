@@ -6,32 +6,36 @@
 
 ghost use Rattle.std.specs.Prelude.{◌≤◌};
 
+use std::io;
+use std::io::Write;
+use std::rt::Files;
+
 // Writes the first n bytes.
-fn write(bytes: [u8; 24576], n: usize)
+fn write<W: Write>(out: &mut W, bytes: [u8; 24576], n: usize) -> io::Result<()>
     requires { n ≤ 24576 }
 {
-    io::write_all(1, &bytes[..n]);
+    out.write_all(&bytes[..n])
 }
 
-fn print_marks(chart: &[u8], bars: &[u8]) {
+fn print_marks<W: Write>(out: &mut W, chart: &[u8], bars: &[u8]) -> io::Result<()> {
     let text = marks_file::marks_of_files(chart, bars);
     let bytes = text.bytes;
-    write(bytes, text.len);
+    write(out, bytes, text.len)
 }
 
 // `bars.dat` is read unless the chart is refused.
-fn print_with_bars(chart: &[u8]) {
+fn print_with_bars<R: Files + Print>(rt: &R, chart: &[u8]) -> io::Result<()> {
+    let mut out = io::writer(rt);
     if marks_file::chart_refused(chart) {
-        print_marks(chart, b"");
-        return;
+        return print_marks(&mut out, chart, b"");
     }
-    let mut bars = io::large_buffer();
-    let n = files::read_file(b"bars.dat", &mut bars);
-    print_marks(chart, &bars[..n]);
+    let mut bars = files::bars_room();
+    let n = files::read_file(rt, b"bars.dat", &mut bars);
+    print_marks(&mut out, chart, &bars[..n])
 }
 
-fn main() {
+fn main(rt: HostRuntime) -> io::Result<()> {
     let mut chart = files::chart_room();
-    let n = files::read_file(b"chart.dat", &mut chart);
-    print_with_bars(&chart[..n]);
+    let n = files::read_file(&rt, b"chart.dat", &mut chart);
+    print_with_bars(&rt, &chart[..n])
 }

@@ -1,5 +1,5 @@
-// The rows of `report`, some of them lines of `replay` too, written to standard output. Of printing only safety is proved, and a price's
-// digits.
+// The rows of `report`, some of them lines of `replay` too, written to a writer. Of printing only safety is proved, and a price's digits. A
+// write that fails ends the printing, and its error is handed on.
 
 #![tactic(auto)]
 
@@ -9,6 +9,8 @@ ghost use Rattle.std.specs.Float.{binary64};
 ghost use Rattle.rules.specs.Text.{hex};
 
 use chart::{Class, EndPoint, FirstMark, Ground, Label, NMark, Range, ThirdMark, Zone};
+use std::io;
+use std::io::Write;
 
 // A price's bits as 16 hexadecimal digits; of a NaN, whose bits are not defined, 16 zeros.
 pub fn hex_of(x: f64) -> [u8; 16]
@@ -23,40 +25,41 @@ pub fn hex_of(x: f64) -> [u8; 16]
 }
 
 // A price, or a number, with a space behind it.
-pub fn print_price(x: f64) {
-    io::write_all(1, &hex_of(x));
-    io::write_all(1, b" ");
+pub fn print_price<W: Write>(out: &mut W, x: f64) -> io::Result<()> {
+    out.write_all(&hex_of(x))?;
+    out.write_all(b" ")
 }
 
-pub fn print_number(n: u16) {
-    io::print_decimal(1, n as u64);
-    io::write_all(1, b" ");
+pub fn print_number<W: Write>(out: &mut W, n: u16) -> io::Result<()> {
+    write!(out, "{n} ")
 }
 
 // The end of a section's head: how many rows follow, or the number with which the call is refused.
-fn print_answer(number: u8, count: u16) {
+fn print_answer<W: Write>(out: &mut W, number: u8, count: u16) -> io::Result<()> {
     if number == 0 {
-        io::write_all(1, b" ");
-        io::print_decimal(1, count as u64);
+        writeln!(out, " {count}")
     } else {
-        io::write_all(1, b" refused ");
-        io::print_decimal(1, number as u64);
+        writeln!(out, " refused {number}")
     }
-    io::write_all(1, b"\n");
 }
 
 // A section's head.
-pub fn print_head(name: &[u8], number: u8, count: u16) {
-    io::write_all(1, name);
-    print_answer(number, count);
+pub fn print_head<W: Write>(out: &mut W, name: &[u8], number: u8, count: u16) -> io::Result<()> {
+    out.write_all(name)?;
+    print_answer(out, number, count)
 }
 
 // The head of a section of a case-3 byte.
-pub fn print_case3_head(name: &[u8], case3: u8, number: u8, count: u16) {
-    io::write_all(1, name);
-    io::write_all(1, b" case3=");
-    io::print_decimal(1, case3 as u64);
-    print_answer(number, count);
+pub fn print_case3_head<W: Write>(
+    out: &mut W,
+    name: &[u8],
+    case3: u8,
+    number: u8,
+    count: u16,
+) -> io::Result<()> {
+    out.write_all(name)?;
+    write!(out, " case3={case3}")?;
+    print_answer(out, number, count)
 }
 
 // How many places of an array are filled: as many as are counted, and no more than it has.
@@ -74,182 +77,194 @@ pub fn shown(count: u16, size: usize) -> usize
 }
 
 // A word and a number, on a line.
-pub fn print_line(word: &[u8], n: u64) {
-    io::write_all(1, word);
-    io::print_decimal(1, n);
-    io::write_all(1, b"\n");
+pub fn print_line<W: Write>(out: &mut W, word: &[u8], n: u64) -> io::Result<()> {
+    out.write_all(word)?;
+    writeln!(out, "{n}")
 }
 
 // The range of a big, with a space behind it.
-fn print_range(range: Range) {
+fn print_range<W: Write>(out: &mut W, range: Range) -> io::Result<()> {
     match range {
         Range::Found(span) => {
-            print_number(span.start_bar);
-            print_number(span.end_bar);
-            print_price(span.low);
-            print_price(span.high);
-            print_number(span.low_bar);
-            print_number(span.high_bar);
+            print_number(out, span.start_bar)?;
+            print_number(out, span.end_bar)?;
+            print_price(out, span.low)?;
+            print_price(out, span.high)?;
+            print_number(out, span.low_bar)?;
+            print_number(out, span.high_bar)
         }
-        Range::Missing => {
-            io::write_all(1, b"missing ");
-        }
+        Range::Missing => out.write_all(b"missing "),
     }
 }
 
-fn print_end_point(end_point: EndPoint) {
+fn print_end_point<W: Write>(out: &mut W, end_point: EndPoint) -> io::Result<()> {
     match end_point {
         EndPoint::At(bar, price) => {
-            print_number(bar);
-            io::write_all(1, &hex_of(price));
+            print_number(out, bar)?;
+            out.write_all(&hex_of(price))
         }
-        EndPoint::Nowhere => {
-            io::write_all(1, b"none");
-        }
+        EndPoint::Nowhere => out.write_all(b"none"),
     }
 }
 
 // A row of the section RANGES: the range of a big, and its end point.
-pub fn print_big(range: Range, end_point: EndPoint) {
-    print_range(range);
-    print_end_point(end_point);
-    io::write_all(1, b"\n");
+pub fn print_big<W: Write>(out: &mut W, range: Range, end_point: EndPoint) -> io::Result<()> {
+    print_range(out, range)?;
+    print_end_point(out, end_point)?;
+    out.write_all(b"\n")
 }
 
 // A row of the section ZONES, behind a word: none in `report`, what the line is in `replay`.
-fn print_zone(word: &[u8], z: Zone) {
-    io::write_all(1, word);
-    print_number(z.sup_idx);
-    print_number(z.start_bar);
-    print_number(z.end_bar);
-    print_price(z.zd);
-    print_price(z.zg);
-    print_price(z.dd);
-    print_price(z.gg);
-    print_number(z.first_member);
-    print_number(z.members);
-    print_number(z.dd_bar);
-    io::print_decimal(1, z.gg_bar as u64);
-    io::write_all(1, b"\n");
+fn print_zone<W: Write>(out: &mut W, word: &[u8], z: Zone) -> io::Result<()> {
+    out.write_all(word)?;
+    print_number(out, z.sup_idx)?;
+    print_number(out, z.start_bar)?;
+    print_number(out, z.end_bar)?;
+    print_price(out, z.zd)?;
+    print_price(out, z.zg)?;
+    print_price(out, z.dd)?;
+    print_price(out, z.gg)?;
+    print_number(out, z.first_member)?;
+    print_number(out, z.members)?;
+    print_number(out, z.dd_bar)?;
+    let gg_bar = z.gg_bar;
+    writeln!(out, "{gg_bar}")
 }
 
-pub fn print_zones(word: &[u8], rows: [Zone; 256], count: u16) {
+pub fn print_zones<W: Write>(
+    out: &mut W,
+    word: &[u8],
+    rows: [Zone; 256],
+    count: u16,
+) -> io::Result<()> {
     for i in 0..shown(count, 256) {
-        print_zone(word, rows[i]);
+        print_zone(out, word, rows[i])?;
     }
+    Ok(())
 }
 
 // What a third mark beat.
-fn print_ground(ground: Ground) {
+fn print_ground<W: Write>(out: &mut W, ground: Ground) -> io::Result<()> {
     match ground {
         Ground::Zone(edge) => {
-            io::write_all(1, b"zone ");
-            io::write_all(1, &hex_of(edge));
+            out.write_all(b"zone ")?;
+            out.write_all(&hex_of(edge))?;
         }
         Ground::Anchor(price) => {
-            io::write_all(1, b"anchor ");
-            io::write_all(1, &hex_of(price));
+            out.write_all(b"anchor ")?;
+            out.write_all(&hex_of(price))?;
         }
     }
-    io::write_all(1, b"\n");
+    out.write_all(b"\n")
 }
 
 // The side of a mark, with a space behind it.
-fn print_side(buy: bool) {
+fn print_side<W: Write>(out: &mut W, buy: bool) -> io::Result<()> {
     if buy {
-        io::write_all(1, b"buy ");
+        out.write_all(b"buy ")
     } else {
-        io::write_all(1, b"sell ");
+        out.write_all(b"sell ")
     }
 }
 
 // A row of the section THIRD, behind a word.
-fn print_third(word: &[u8], m: ThirdMark) {
-    io::write_all(1, word);
-    print_side(m.is_buy);
-    print_number(m.bar_index);
-    print_price(m.price);
+fn print_third<W: Write>(out: &mut W, word: &[u8], m: ThirdMark) -> io::Result<()> {
+    out.write_all(word)?;
+    print_side(out, m.is_buy)?;
+    print_number(out, m.bar_index)?;
+    print_price(out, m.price)?;
     let ground = m.ground;
-    print_ground(ground);
+    print_ground(out, ground)
 }
 
-pub fn print_thirds(word: &[u8], rows: [ThirdMark; 512], count: u16) {
+pub fn print_thirds<W: Write>(
+    out: &mut W,
+    word: &[u8],
+    rows: [ThirdMark; 512],
+    count: u16,
+) -> io::Result<()> {
     for i in 0..shown(count, 512) {
-        print_third(word, rows[i]);
+        print_third(out, word, rows[i])?;
     }
+    Ok(())
 }
 
 // A row of the section THREEN, behind a word.
-fn print_threen(word: &[u8], m: NMark) {
-    io::write_all(1, word);
-    print_side(m.is_buy);
-    io::print_decimal(1, m.order as u64);
-    io::write_all(1, b" ");
-    print_number(m.bar_index);
-    io::write_all(1, &hex_of(m.price));
-    io::write_all(1, b"\n");
+fn print_threen<W: Write>(out: &mut W, word: &[u8], m: NMark) -> io::Result<()> {
+    out.write_all(word)?;
+    print_side(out, m.is_buy)?;
+    let order = m.order;
+    write!(out, "{order} ")?;
+    print_number(out, m.bar_index)?;
+    out.write_all(&hex_of(m.price))?;
+    out.write_all(b"\n")
 }
 
-pub fn print_threens(word: &[u8], rows: [NMark; 512], count: u16) {
+pub fn print_threens<W: Write>(
+    out: &mut W,
+    word: &[u8],
+    rows: [NMark; 512],
+    count: u16,
+) -> io::Result<()> {
     for i in 0..shown(count, 512) {
-        print_threen(word, rows[i]);
+        print_threen(out, word, rows[i])?;
     }
+    Ok(())
 }
 
 // A row of the section LABELS.
-fn print_bytes(bytes: [u8; 16], n: usize) {
+fn print_bytes<W: Write>(out: &mut W, bytes: [u8; 16], n: usize) -> io::Result<()> {
     if n <= 16 {
-        io::write_all(1, &bytes[..n]);
+        out.write_all(&bytes[..n])?;
     }
-    io::write_all(1, b"\n");
+    out.write_all(b"\n")
 }
 
-fn print_label(l: Label) {
+fn print_label<W: Write>(out: &mut W, l: Label) -> io::Result<()> {
     let bytes = l.bytes;
-    print_bytes(bytes, l.len as usize);
+    print_bytes(out, bytes, l.len as usize)
 }
 
-pub fn print_labels(rows: [Label; 256], count: u16) {
+pub fn print_labels<W: Write>(out: &mut W, rows: [Label; 256], count: u16) -> io::Result<()> {
     for i in 0..shown(count, 256) {
-        print_label(rows[i]);
+        print_label(out, rows[i])?;
     }
+    Ok(())
 }
 
 // A row of a section CLASSES.
-fn print_class(k: Class) {
-    print_number(k.first);
-    print_number(k.last);
-    print_number(k.direction as u16);
-    print_number(if k.by_case3 { 3 } else { 2 });
-    print_number(k.extended as u16);
-    io::print_decimal(1, k.base_adjacent as u64);
-    io::write_all(1, b"\n");
+fn print_class<W: Write>(out: &mut W, k: Class) -> io::Result<()> {
+    print_number(out, k.first)?;
+    print_number(out, k.last)?;
+    print_number(out, k.direction as u16)?;
+    print_number(out, if k.by_case3 { 3 } else { 2 })?;
+    print_number(out, k.extended as u16)?;
+    let base_adjacent = k.base_adjacent as u8;
+    writeln!(out, "{base_adjacent}")
 }
 
-pub fn print_classes(rows: [Class; 256], count: u16) {
+pub fn print_classes<W: Write>(out: &mut W, rows: [Class; 256], count: u16) -> io::Result<()> {
     for i in 0..shown(count, 256) {
-        print_class(rows[i]);
+        print_class(out, rows[i])?;
     }
+    Ok(())
 }
 
 // A row of a section of first marks.
-fn print_first(m: FirstMark) {
-    print_number(m.bar_index);
-    io::write_all(1, &hex_of(m.price));
-    io::write_all(1, b"\n");
+fn print_first<W: Write>(out: &mut W, m: FirstMark) -> io::Result<()> {
+    print_number(out, m.bar_index)?;
+    out.write_all(&hex_of(m.price))?;
+    out.write_all(b"\n")
 }
 
-pub fn print_firsts(rows: [FirstMark; 256], count: u16) {
+pub fn print_firsts<W: Write>(out: &mut W, rows: [FirstMark; 256], count: u16) -> io::Result<()> {
     for i in 0..shown(count, 256) {
-        print_first(rows[i]);
+        print_first(out, rows[i])?;
     }
+    Ok(())
 }
 
 // The line of a file that is refused.
-pub fn print_refused(number: u8, place: usize) {
-    io::write_all(1, b"refused ");
-    io::print_decimal(1, number as u64);
-    io::write_all(1, b" at ");
-    io::print_decimal(1, place as u64);
-    io::write_all(1, b"\n");
+pub fn print_refused<W: Write>(out: &mut W, number: u8, place: usize) -> io::Result<()> {
+    writeln!(out, "refused {number} at {place}")
 }

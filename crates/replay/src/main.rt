@@ -5,6 +5,9 @@
 
 ghost use Rattle.std.specs.Prelude.{◌≤◌, length};
 
+use std::io;
+use std::io::{BufWriter, Write};
+
 // As many bytes as decide every log: one with more than 65,536 is bad, and its first bad entry is found in these.
 fn room() -> [u8; 65537]
     ensures { 65537 ≤ length result }
@@ -12,8 +15,10 @@ fn room() -> [u8; 65537]
     [0; 65537]
 }
 
-fn main() {
+fn main(rt: HostRuntime) -> io::Result<()> {
     let mut buffer = room();
-    let n = io::read_full(0, &mut buffer);
-    replay_lines::print_replay(&buffer[..n]);
+    let n = files::read_full(&mut rt.reader(), &mut buffer);
+    let mut out = BufWriter::new(rt.alloc(), io::writer(&rt))?;
+    replay_lines::print_replay(&mut out, &buffer[..n])?;
+    out.flush()
 }

@@ -6,122 +6,122 @@
 use chart::{Chart, Stroke, Triple};
 use live::Live;
 use mark_rows::NRows;
+use std::io;
+use std::io::Write;
 use third::ThirdRows;
 
-fn print_answer(number: u8) {
-    io::print_decimal(1, number as u64);
-    io::write_all(1, b"\n");
+fn print_answer<W: Write>(out: &mut W, number: u8) -> io::Result<()> {
+    writeln!(out, "{number}")
 }
 
-fn print_answers(numbers: [u8; 32768], calls: usize) {
+fn print_answers<W: Write>(out: &mut W, numbers: [u8; 32768], calls: usize) -> io::Result<()> {
     for i in 0..printing::filled(calls, 32768) {
-        print_answer(numbers[i]);
+        print_answer(out, numbers[i])?;
     }
+    Ok(())
 }
 
-fn print_stroke(s: Stroke) {
-    io::write_all(1, b"stroke ");
-    printing::print_number(s.direction as u16);
-    printing::print_number(s.start_bar);
-    printing::print_number(s.end_bar);
-    printing::print_price(s.start_price);
-    printing::print_price(s.end_price);
-    io::print_decimal(1, s.roll as u64);
-    io::write_all(1, b"\n");
+fn print_stroke<W: Write>(out: &mut W, s: Stroke) -> io::Result<()> {
+    out.write_all(b"stroke ")?;
+    printing::print_number(out, s.direction as u16)?;
+    printing::print_number(out, s.start_bar)?;
+    printing::print_number(out, s.end_bar)?;
+    printing::print_price(out, s.start_price)?;
+    printing::print_price(out, s.end_price)?;
+    let roll = s.roll;
+    writeln!(out, "{roll}")
 }
 
-fn print_strokes(rows: [Stroke; 512], count: u16) {
+fn print_strokes<W: Write>(out: &mut W, rows: [Stroke; 512], count: u16) -> io::Result<()> {
     for i in 0..printing::shown(count, 512) {
-        print_stroke(rows[i]);
+        print_stroke(out, rows[i])?;
     }
+    Ok(())
 }
 
 // A record of the level of this name.
-fn print_triple(name: &[u8], t: Triple) {
-    io::write_all(1, name);
-    printing::print_number(t.direction as u16);
-    printing::print_number(t.first);
-    io::print_decimal(1, t.last as u64);
-    io::write_all(1, b"\n");
+fn print_triple<W: Write>(out: &mut W, name: &[u8], t: Triple) -> io::Result<()> {
+    out.write_all(name)?;
+    printing::print_number(out, t.direction as u16)?;
+    printing::print_number(out, t.first)?;
+    let last = t.last;
+    writeln!(out, "{last}")
 }
 
-fn print_triples(name: &[u8], rows: [Triple; 256], count: u16) {
+fn print_triples<W: Write>(
+    out: &mut W,
+    name: &[u8],
+    rows: [Triple; 256],
+    count: u16,
+) -> io::Result<()> {
     for i in 0..printing::shown(count, 256) {
-        print_triple(name, rows[i]);
+        print_triple(out, name, rows[i])?;
     }
+    Ok(())
 }
 
-fn print_chart(chart: Chart) {
+fn print_chart<W: Write>(out: &mut W, chart: Chart) -> io::Result<()> {
     let strokes = chart.strokes;
-    print_strokes(strokes, chart.stroke_count);
+    print_strokes(out, strokes, chart.stroke_count)?;
     let segments = chart.segments;
-    print_triples(b"segment ", segments, chart.segment_count);
+    print_triples(out, b"segment ", segments, chart.segment_count)?;
     let bigs = chart.bigs;
-    print_triples(b"big ", bigs, chart.big_count);
+    print_triples(out, b"big ", bigs, chart.big_count)?;
     let superiors = chart.superiors;
-    print_triples(b"superior ", superiors, chart.superior_count);
+    print_triples(out, b"superior ", superiors, chart.superior_count)
 }
 
 // The count of accepted calls, the records of each level, and the zones.
-fn print_live(b: Live) {
-    io::write_all(1, b"count ");
-    io::print_decimal(1, b.count as u64);
-    io::write_all(1, b"\n");
+fn print_live<W: Write>(out: &mut W, b: Live) -> io::Result<()> {
+    printing::print_line(out, b"count ", b.count as u64)?;
     let chart = b.chart;
-    print_chart(chart);
+    print_chart(out, chart)?;
     let zones = b.zones;
-    printing::print_zones(b"zone ", zones, b.zone_count);
+    printing::print_zones(out, b"zone ", zones, b.zone_count)
 }
 
 // The line of a mark call that is refused.
-fn print_refused(call: &[u8], number: u8) {
-    io::write_all(1, call);
-    io::write_all(1, b"refused ");
-    io::print_decimal(1, number as u64);
-    io::write_all(1, b"\n");
+fn print_refused<W: Write>(out: &mut W, call: &[u8], number: u8) -> io::Result<()> {
+    out.write_all(call)?;
+    writeln!(out, "refused {number}")
 }
 
-fn print_third_answer(found: ThirdRows) {
+fn print_third_answer<W: Write>(out: &mut W, found: ThirdRows) -> io::Result<()> {
     if found.number != 0 {
-        print_refused(b"third ", found.number);
-        return;
+        return print_refused(out, b"third ", found.number);
     }
     let rows = found.rows;
-    printing::print_thirds(b"third ", rows, found.count);
+    printing::print_thirds(out, b"third ", rows, found.count)
 }
 
-fn print_threen_answer(found: NRows) {
+fn print_threen_answer<W: Write>(out: &mut W, found: NRows) -> io::Result<()> {
     if found.number != 0 {
-        print_refused(b"threen ", found.number);
-        return;
+        return print_refused(out, b"threen ", found.number);
     }
     let rows = found.rows;
-    printing::print_threens(b"threen ", rows, found.count);
+    printing::print_threens(out, b"threen ", rows, found.count)
 }
 
-fn print_bad(place: usize) {
-    io::write_all(1, b"bad log at ");
-    io::print_decimal(1, place as u64);
-    io::write_all(1, b"\n");
+fn print_bad<W: Write>(out: &mut W, place: usize) -> io::Result<()> {
+    writeln!(out, "bad log at {place}")
 }
 
 // All lines, or `bad log at P` alone. A log without a bar has no line of marks.
-pub fn print_replay(log: &[u8]) {
+pub fn print_replay<W: Write>(out: &mut W, log: &[u8]) -> io::Result<()> {
     let all = sequel::replay_then_marks(log);
     let run = all.run;
     if run.bad {
-        print_bad(run.place);
-        return;
+        return print_bad(out, run.place);
     }
     let answers = run.answers;
-    print_answers(answers, run.count);
+    print_answers(out, answers, run.count)?;
     let left = run.chart;
-    print_live(left);
+    print_live(out, left)?;
     if run.bars == 0 {
-        return;
+        return Ok(());
     }
     let thirds = all.thirds;
-    print_third_answer(thirds);
+    print_third_answer(out, thirds)?;
     let marks = all.marks;
-    print_threen_answer(marks);
+    print_threen_answer(out, marks)
 }

@@ -3,10 +3,15 @@
 
 #![tactic(auto)]
 
-fn main() {
+use std::io;
+use std::io::{BufWriter, Write};
+
+fn main(rt: HostRuntime) -> io::Result<()> {
     let mut chart = files::chart_room();
-    let n = files::read_argument(1, b"chart.dat", &mut chart);
-    let mut bars = io::large_buffer();
-    let m = files::read_argument(2, b"bars.dat", &mut bars);
-    sections::print_report(&chart[..n], &bars[..m]);
+    let n = files::read_argument(&rt, 1, b"chart.dat", &mut chart);
+    let mut bars = files::bars_room();
+    let m = files::read_argument(&rt, 2, b"bars.dat", &mut bars);
+    let mut out = BufWriter::new(rt.alloc(), io::writer(&rt))?;
+    sections::print_report(&mut out, &chart[..n], &bars[..m])?;
+    out.flush()
 }

@@ -1,10 +1,10 @@
 -- A buffer into which bytes are put, one part behind the other. Assumes nothing.
-use Prim.Native.Nat.{ℕ, ◌+◌, ◌-◌, ◌≤◌, ◌<◌}
+use Prim.Native.Nat.{ℕ, ◌+◌, ◌≤◌, ◌<◌}
 use native.Mathlib.Omega.{arith}
 use mathlib.Core.Path.{◌≡◌, refl, sym, ◌∙◌}
 use mathlib.Core.List.{List, [], ◌∷◌, ◌++◌, append_assoc}
 use lib.ListN.{length, take, drop, set, length-append, length-take, length-drop, length-set}
-use lib.Seq.{length-take-le, take_all, take-length, take_at}
+use lib.Seq.{length-take-le, take_all, take_at}
 use borrow.Rule.Slice.PartMut.{put_mid}
 use Rattle.laws.proofs.Arrays.{one_more}
 use Rattle.text.specs.Puts.{Puts}
@@ -13,22 +13,19 @@ use Rattle.text.specs.Puts.{Puts}
 pub put_one : (old : List ℕ) (at b : ℕ) → at < length old → Puts old at (b ∷ []) (set old at b) (at + 1)
 put_one old at b h = record { text = one_more old at b h; place = refl; long = length-set old at b }
 
--- a word that is copied to the start of the part from place `at` on, which is lent
-pub put-part :
-    (old part word : List ℕ) (at n : ℕ) → at + length word ≤ length old → n ≡ length word
-    → part ≡ take (length word) word ++ drop (length word) (take (length old - at) (drop at old))
-    → Puts old at word (put_mid at (length old - at) old part) (at + n)
-put-part old part word at n h e p =
-    let rest = drop (length word) (take (length old - at) (drop at old)) in
-    let behind = drop (length old - at) (drop at old) in
+-- a word that is copied to the part from place `at` on that is lent
+pub put_part :
+    (old part word : List ℕ) (at n : ℕ) → at + length word ≤ length old → n ≡ length word → part ≡ word
+    → Puts old at word (put_mid at n old part) (at + n)
+put_part old part word at n h e p =
+    let rest = drop n (drop at old) in
     let before = length-take-le at old (omega arith) in
-    let size : length (take at old ++ word) ≡ at + length word = omega (arith, length-append (take at old) word) in
+    let size : length (take at old ++ word) ≡ at + n = omega (arith, length-append (take at old) word) in
+    rw p
     record {
-      text =
-          rw (e, p, take-length word, append_assoc word rest behind, ← append_assoc (take at old) word (rest ++ behind))
-          (take_at (take at old ++ word) (rest ++ behind) (at + length word) size);
+      text = rw (← append_assoc (take at old) word rest) (take_at (take at old ++ word) rest (at + n) size);
       place = omega arith;
-      long = rw (p, take-length word) (simp (length-append, length-take, length-drop) (omega arith));
+      long = simp (length-append, length-take, length-drop) (omega arith);
     }
 
 -- some bytes, and then some behind them

@@ -18,8 +18,9 @@ pub fn put_word(out: &mut [u8], at: usize, word: &[u8]) -> usize
     requires { at + length word.now ≤ length out.old }
     ensures { Puts out.old at word.now out.new result }
 {
-    let count = bytes::copy(word, &mut out[at..]);
-    at + count
+    let end = at + word.len();
+    out[at..end].copy_from_slice(word);
+    end
 }
 
 // A digit, a letter in upper case from ten on.

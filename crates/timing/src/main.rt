@@ -6,6 +6,8 @@
 ghost use Rattle.std.specs.Prelude.{◌<◌};
 
 use chart::Chart;
+use std::io;
+use std::io::Write;
 
 // The call that an argument names.
 #[derive(Clone, Copy)]
@@ -92,35 +94,45 @@ fn sum_of(call: Call, start: Chart, highs: &[f64], lows: &[f64], turns: u32) -> 
 }
 
 // The sum of the turns on a chart and a bars file, or `refused N at P` alone.
-fn print_with_bars(chart: Chart, bars: &[u8], call: Call, turns: u32) {
+fn print_with_bars<W: Write>(
+    out: &mut W,
+    chart: Chart,
+    bars: &[u8],
+    call: Call,
+    turns: u32,
+) -> io::Result<()> {
     let mut highs = [0.0; 2048];
     let mut lows = [0.0; 2048];
     let read = bars_read::read_bars(bars, &mut highs, &mut lows);
     if read.number != 0 {
-        printing::print_refused(read.number, read.place);
-        return;
+        return printing::print_refused(out, read.number, read.place);
     }
     let n = printing::filled(read.bars, 2048);
     let sum = sum_of(call, chart, &highs[..n], &lows[..n], turns);
-    printing::print_head(b"SUM", 0, sum);
+    printing::print_head(out, b"SUM", 0, sum)
 }
 
-fn print_sum(chart: &[u8], bars: &[u8], call: Call, turns: u32) {
+fn print_sum<W: Write>(
+    out: &mut W,
+    chart: &[u8],
+    bars: &[u8],
+    call: Call,
+    turns: u32,
+) -> io::Result<()> {
     let read = chart_read::read_chart(chart);
     if read.number != 0 {
-        printing::print_refused(read.number, read.place);
-        return;
+        return printing::print_refused(out, read.number, read.place);
     }
     let loaded = read.chart;
-    print_with_bars(loaded, bars, call, turns);
+    print_with_bars(out, loaded, bars, call, turns)
 }
 
-fn main() {
+fn main(rt: HostRuntime) -> io::Result<()> {
     let mut chart = files::chart_room();
-    let n = files::read_file(b"chart.dat", &mut chart);
-    let mut bars = io::large_buffer();
-    let m = files::read_file(b"bars.dat", &mut bars);
-    let call = call_of(arguments::word(1));
-    let turns = arguments::number(arguments::word(2));
-    print_sum(&chart[..n], &bars[..m], call, turns);
+    let n = files::read_file(&rt, b"chart.dat", &mut chart);
+    let mut bars = files::bars_room();
+    let m = files::read_file(&rt, b"bars.dat", &mut bars);
+    let call = call_of(arguments::word(&rt, 1));
+    let turns = arguments::number(arguments::word(&rt, 2));
+    print_sum(&mut io::writer(&rt), &chart[..n], &bars[..m], call, turns)
 }
