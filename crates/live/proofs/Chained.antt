@@ -117,6 +117,8 @@ record Runs (m : Machine) (ks : List Call) (ns : List ℕ) (d : Live) : Type 0 w
 runs : (m : Machine) (b d : Live) (ks : List Call) (ns : List ℕ) → Agrees m b → Chain b ks ns d → Runs m ks ns d
 unfolding answers run
 runs m b d [] [] a done = record { answered = refl; agrees = a }
+runs m b d [] (n ∷ ns) a h = elim h [ ]
+runs m b d (k ∷ ks) [] a h = elim h [ ]
 runs m b d (k ∷ ks) (n ∷ ns) a (next {c = c} h t) =
     let r = runs (step m k) c d ks ns (after_call m b c k n a h) t in
     let e : n ≡ refusal m.levels k = h.number ∙ answer-is m b a k in

@@ -1,5 +1,6 @@
 -- `live::Live::add_stroke` meets its contract. Assumes nothing.
 use native.Mathlib.Omega.{arith}
+use mathlib.Core.Logic.{inl, inr}
 use mathlib.Core.Path.{◌≡◌, sym, ◌∙◌}
 use borrow.Author.Rules.{rules}
 use Rattle.rules.specs.Records.{levels_of}
@@ -11,7 +12,7 @@ use Rattle.laws.proofs.Levels.{stroke}
 use Rattle.live.specs.Did.{data_of}
 use Rattle.live.proofs.Outcomes.{passes, answer-is, did-not, accepts}
 use Rattle.live.proofs.Levelled.{adding-refused, adding-room, adding-does}
-use Rattle.live.proofs.Live.add_stroke.Goals.{Joined-number-eq0, Start, Then-number-eq0-2}
+use Rattle.live.proofs.Live.add_stroke.Goals.{then-number-eq0, else-number-eq0, Joined-number-eq0, Start, Then-number-eq0-2}
 use Rattle.live.proofs.Live.add_stroke.Goals as goal
 
 sized : (c : Start) → Sized c.args.self.chart
@@ -23,9 +24,12 @@ start c = c.before.before.before
 number_is : (c : Joined-number-eq0) → c.if-number-eq0.number ≡ live_refusal (data_of (start c).args.self) (add_stroke (start c).args.s)
 unfolding levels_of
 number_is c =
-    answer-is _ _ _ _ c.first_number-number.ensures
-    (λ w. (w.0.true, λ good. w.2 ∙ w.1.ensures ∙ sym (adding-refused _ (sized c.before.before.before) (counted _ good) stroke _)))
-    (λ w. (w.0.false, w.1)) c.if-number-eq0.branch
+    elim c.if-number-eq0.branch [
+      | then-number-eq0 w ↦
+          answer-is _ _ {Own = Unit {0}} {First = ⊥} _ _ c.first_number-number.ensures (λ u. (w.if-number-eq0.true, λ good. w.number-is ∙ w.stroke_refusal-number.ensures ∙ sym (adding-refused _ (sized c.before.before.before) (counted _ good) stroke _))) (λ f. absurd f) (inl tt)
+      | else-number-eq0 w ↦
+          answer-is _ _ {Own = ⊥} {First = Unit {0}} _ _ c.first_number-number.ensures (λ f. absurd f) (λ u. (w.if-number-eq0.false, w.number-is)) (inr tt)
+    ]
 
 zero : (c : Then-number-eq0-2) → live_refusal (data_of (start c.before).args.self) (add_stroke (start c.before).args.s) ≡ 0
 zero c = sym (number_is c.before) ∙ c.if-number-eq0-2.true

@@ -1,5 +1,6 @@
 -- `live::Live::add_superior` meets its contract. Assumes nothing.
 use native.Mathlib.Omega.{arith}
+use mathlib.Core.Logic.{inl, inr}
 use mathlib.Core.Path.{◌≡◌, sym, ◌∙◌}
 use borrow.Author.Rules.{rules}
 use Rattle.rules.specs.Machine.{add_superior}
@@ -10,7 +11,7 @@ use Rattle.laws.proofs.Levels.{above, superior}
 use Rattle.live.specs.Did.{data_of}
 use Rattle.live.proofs.Outcomes.{passes, answer-is, did-not, accepts}
 use Rattle.live.proofs.Levelled.{adding-refused, adding-room, adding-does}
-use Rattle.live.proofs.Live.add_superior.Goals.{Joined-number-eq0, Start, Then-number-eq0-2}
+use Rattle.live.proofs.Live.add_superior.Goals.{then-number-eq0, else-number-eq0, Joined-number-eq0, Start, Then-number-eq0-2}
 use Rattle.live.proofs.Live.add_superior.Goals as goal
 
 sized : (c : Start) → Sized c.args.self.chart
@@ -21,9 +22,12 @@ start c = c.before.before.before
 
 number_is : (c : Joined-number-eq0) → c.if-number-eq0.number ≡ live_refusal (data_of (start c).args.self) (add_superior (start c).args.t)
 number_is c =
-    answer-is _ _ _ _ c.first_number-number.ensures
-    (λ w. (w.0.true, λ good. w.3 ∙ w.2.ensures ∙ sym (adding-refused _ (sized c.before.before.before) (counted _ good) (above superior) _)))
-    (λ w. (w.0.false, w.1)) c.if-number-eq0.branch
+    elim c.if-number-eq0.branch [
+      | then-number-eq0 w ↦
+          answer-is _ _ {Own = Unit {0}} {First = ⊥} _ _ c.first_number-number.ensures (λ u. (w.if-number-eq0.true, λ good. w.number-is ∙ w.triple_refusal-number.ensures ∙ sym (adding-refused _ (sized c.before.before.before) (counted _ good) (above superior) _))) (λ f. absurd f) (inl tt)
+      | else-number-eq0 w ↦
+          answer-is _ _ {Own = ⊥} {First = Unit {0}} _ _ c.first_number-number.ensures (λ f. absurd f) (λ u. (w.if-number-eq0.false, w.number-is)) (inr tt)
+    ]
 
 zero : (c : Then-number-eq0-2) → live_refusal (data_of (start c.before).args.self) (add_superior (start c.before).args.t) ≡ 0
 zero c = sym (number_is c.before) ∙ c.if-number-eq0-2.true

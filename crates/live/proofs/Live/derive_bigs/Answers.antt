@@ -1,6 +1,7 @@
 -- `live::Live::derive_bigs` meets its contract. Assumes nothing.
 use Prim.Native.Nat.{◌≤◌}
 use native.Mathlib.Omega.{arith}
+use mathlib.Core.Logic.{inl, inr}
 use mathlib.Core.Path.{◌≡◌, sym, ◌∙◌}
 use lib.ListN.{length}
 use lib.Dec.{eqb}
@@ -15,7 +16,7 @@ use Rattle.laws.proofs.Levels.{above, big, as_long}
 use Rattle.live.specs.Did.{data_of}
 use Rattle.live.proofs.Outcomes.{answer-is, did-not, accepts}
 use Rattle.live.proofs.Derives.{Found, bigs-found, bigs-does}
-use Rattle.live.proofs.Live.derive_bigs.Goals.{After-classify_big_segments-found, Joined-number-eq0, Start, Then-number-eq0-2}
+use Rattle.live.proofs.Live.derive_bigs.Goals.{then-number-eq0, else-number-eq0, After-classify_big_segments-found, Joined-number-eq0, Start, Then-number-eq0-2}
 use Rattle.live.proofs.Live.derive_bigs.Goals as goal
 
 sized : (c : Start) → Sized c.args.self.chart
@@ -27,9 +28,12 @@ start c = c.before.before.before
 number_is : (c : Joined-number-eq0) → c.if-number-eq0.number ≡ live_refusal (data_of (start c).args.self) (derive_bigs (start c).args.byte)
 unfolding refusal levels_of
 number_is c =
-    answer-is _ _ _ _ c.first_number-number.ensures
-    (λ w. (w.0.true, λ good. w.2 ∙ w.1.ensures _ (as_long _ (sized c.before.before.before) (counted _ good) (above big))))
-    (λ w. (w.0.false, w.1)) c.if-number-eq0.branch
+    elim c.if-number-eq0.branch [
+      | then-number-eq0 w ↦
+          answer-is _ _ {Own = Unit {0}} {First = ⊥} _ _ c.first_number-number.ensures (λ u. (w.if-number-eq0.true, λ good. w.number-is ∙ w.derive_refusal-number.ensures _ (as_long _ (sized c.before.before.before) (counted _ good) (above big)))) (λ f. absurd f) (inl tt)
+      | else-number-eq0 w ↦
+          answer-is _ _ {Own = ⊥} {First = Unit {0}} _ _ c.first_number-number.ensures (λ f. absurd f) (λ u. (w.if-number-eq0.false, w.number-is)) (inr tt)
+    ]
 
 zero : (c : Then-number-eq0-2) → live_refusal (data_of (start c.before).args.self) (derive_bigs (start c.before).args.byte) ≡ 0
 zero c = sym (number_is c.before) ∙ c.if-number-eq0-2.true

@@ -1,6 +1,7 @@
 -- `live::Live::lengthen` meets its contract. Assumes nothing.
 use Prim.Native.Nat.{◌≤◌}
 use native.Mathlib.Omega.{arith}
+use mathlib.Core.Logic.{inl, inr}
 use mathlib.Core.Path.{◌≡◌, sym, ◌∙◌}
 use borrow.Author.Rules.{rules}
 use Rattle.rules.specs.Machine.{lengthen}
@@ -11,7 +12,7 @@ use Rattle.live.specs.Did.{data_of}
 use Rattle.live.proofs.Outcomes.{passes, answer-is, did-not, accepts}
 use Rattle.live.proofs.Levelled.{lengthen-refused}
 use Rattle.live.proofs.Ends.{some-superior, lengthen-does}
-use Rattle.live.proofs.Live.lengthen.Goals.{Joined-number-eq0, Start, Then-number-eq0-2}
+use Rattle.live.proofs.Live.lengthen.Goals.{then-number-eq0, else-number-eq0, Joined-number-eq0, Start, Then-number-eq0-2}
 use Rattle.live.proofs.Live.lengthen.Goals as goal
 
 sized : (c : Start) → Sized c.args.self.chart
@@ -22,9 +23,12 @@ start c = c.before.before.before
 
 number_is : (c : Joined-number-eq0) → c.if-number-eq0.number ≡ live_refusal (data_of (start c).args.self) (lengthen (start c).args.last)
 number_is c =
-    answer-is _ _ _ _ c.first_number-number.ensures
-    (λ w. (w.0.true, λ good. w.3 ∙ w.2.ensures ∙ sym (lengthen-refused _ (sized c.before.before.before) (counted _ good) _)))
-    (λ w. (w.0.false, w.1)) c.if-number-eq0.branch
+    elim c.if-number-eq0.branch [
+      | then-number-eq0 w ↦
+          answer-is _ _ {Own = Unit {0}} {First = ⊥} _ _ c.first_number-number.ensures (λ u. (w.if-number-eq0.true, λ good. w.number-is ∙ w.lengthen_refusal-number.ensures ∙ sym (lengthen-refused _ (sized c.before.before.before) (counted _ good) _))) (λ f. absurd f) (inl tt)
+      | else-number-eq0 w ↦
+          answer-is _ _ {Own = ⊥} {First = Unit {0}} _ _ c.first_number-number.ensures (λ f. absurd f) (λ u. (w.if-number-eq0.false, w.number-is)) (inr tt)
+    ]
 
 zero : (c : Then-number-eq0-2) → live_refusal (data_of (start c.before).args.self) (lengthen (start c.before).args.last) ≡ 0
 zero c = sym (number_is c.before) ∙ c.if-number-eq0-2.true
@@ -40,7 +44,7 @@ pub overflow_sub-n : goal.overflow_sub-n
 overflow_sub-n c = there c
 
 pub bounds-chart-n : goal.bounds-chart-n
-bounds-chart-n c = (omega (arith, there c, (counted _ (accepts _ _ (zero c)).good).superiors), tt)
+bounds-chart-n c = omega (arith, there c, (counted _ (accepts _ _ (zero c)).good).superiors)
 
 pub returns-then-number-eq0-2 : goal.returns-then-number-eq0-2
 returns-then-number-eq0-2 c =
