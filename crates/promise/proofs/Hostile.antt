@@ -281,6 +281,7 @@ module _ (c : Levels) (q : Quotes) where
       go x (Memᴰ.head f) o s b = absurd (omega (arith, ap (λ (y : NMark). y.order) f))
       go x (Memᴰ.tail (Memᴰ.head f)) o s b =
           (sym (ap (λ (y : NMark). y.is_buy) f) ∙ s, omega (arith, ap (λ (y : NMark). y.bar_index) f))
+      go x (Memᴰ.tail (Memᴰ.tail none_left)) o s b = elim none_left [ ]
 
   -- an order-1 row with no order-0 row at an earlier bar ..
   zero-behind : (m n : NMark) → 1 ≤ m.order → m.bar_index ≤ n.bar_index → ThreeN c q 0 2 (m ∷ n ∷ []) → ⊥

@@ -13,18 +13,15 @@ use Rattle.call_log.proofs.bad_place.Goals.{In_default, Start}
 use Rattle.call_log.proofs.bad_place.Goals as goal
 
 -- what is known where the entry is not bad
-abbrev log_of : In_default → Start
-log_of c = c.before.before.before.before.before
-
 good :
     (c : In_default)
     → (e : Entry)
-    × EntryAt (log_of c).args.log.now c.loop-at.at c.loop-at.bars e
+    × EntryAt c.args.log.now c.loop-at.at c.loop-at.bars e
     c.next_entry-n.result.next
     c.next_entry-n.result.bars
 good c =
     good-entry _ _ _ c.next_entry-n.result.entry _ _
-    (λ e. miss (0 ∷ 1 ∷ []) 2 tt (rw e at c.in-Bad.keys2))
+    c.in_default.not-Bad
     c.next_entry-n.ensures
 
 pub loop-at-init : goal.loop-at-init

@@ -12,5 +12,4 @@ pub returns-in-Bar : goal.returns-in-Bar
 returns-in-Bar c = with-bar _ _ _ _ c.in-Bar.is
 
 pub returns : goal.returns
-returns c =
-    with_call _ c.args.entry (λ high low e. miss (0 ∷ 2 ∷ []) 1 tt (rw e at c.in-Bar.keys2))
+returns c = with_call _ c.args.entry c.in_default.not-Bar

@@ -104,9 +104,9 @@ returns-in-81 c = rw (c.price_at.ensures, c.price_at-in-81.ensures) (entry-as _ 
 
 pub returns-in_default : goal.returns-in_default
 returns-in_default c =
-    let first = c.in-83.rest.0.0.0.0.0 in
-    let later = c.in-83.rest.0 in
+    let rest = c.in_default.in_default-own.rest in
+    let first = rest.0.0.0.0.0 in
+    let later = rest.0 in
     no_entry _
-    (no_form _ first.0.0.0.1 first.0.0.1 first.0.1 first.1 later.0.0.0.1 later.0.0.1 later.0.1 later.1
-    c.in-83.rest.1)
+    (no_form _ first.0.0.0.1 first.0.0.1 first.0.1 first.1 later.0.0.0.1 later.0.0.1 later.0.1 later.1 rest.1)
     _

@@ -37,12 +37,10 @@ returns-in-81 c = width-as _ 81 c.in-81.is
 pub returns-in_default : goal.returns-in_default
 unfolding width_by
 returns-in_default c =
-    let no = c.in-83.rest.0 in
+    let rest = c.in_default.in_default-own.rest in
+    let no = rest.0 in
     let triple = no.0.0.0.0.1 in
     let other =
-    no_form _ no.0.0.0.0.0.1 (λ e. triple (inr (inl e))) (λ e. triple (inl e)) (λ e. triple (inr (inr e))) no.0.0.0.1
-    no.0.0.1
-    no.0.1
-    no.1
-    c.in-83.rest.1 in
+    no_form _ no.0.0.0.0.0.1 (λ e. triple (inr (inl e))) (λ e. triple (inl e)) (λ e. triple (inr (inr e))) no.0.0.0.1 no.0.0.1 no.0.1 no.1
+    rest.1 in
     rw other
