@@ -9,7 +9,7 @@ ghost use Rattle.call_log.specs.Entries.{bad_at};
 ghost use Rattle.playback.specs.Replays.{Replays};
 
 use live::Live;
-use log::{LogEntry, Place};
+use call_log::{LogEntry, Place};
 
 // What a replay leaves: where an entry of the log is bad, its place, and else an answer for each call, the chart behind them, and the bars of
 // the log in the first `bars` places.
@@ -39,7 +39,7 @@ fn run(log: &[u8]) -> Replayed
     let mut bars = 0usize;
     let mut at = 0usize;
     while at < log.len() {
-        let n = log::next_entry(log, at, bars);
+        let n = call_log::next_entry(log, at, bars);
         at = n.next;
         let entry = n.entry;
         match entry {
@@ -74,7 +74,7 @@ fn run(log: &[u8]) -> Replayed
 pub fn replay(log: &[u8]) -> Replayed
     ensures { Replays log.now result }
 {
-    match log::bad_place(log) {
+    match call_log::bad_place(log) {
         Place::At(place) => {
             return Replayed {
                 answers: [0; 32768],
