@@ -1,11 +1,7 @@
 -- `first_marks::inserted` meets its contract. The invariant: the mark that is held belongs among the rows that are left. Assumes nothing.
-use Prim.Native.Nat.{◌-◌}
 use native.Mathlib.Omega.{arith}
 use mathlib.Core.Path.{refl}
-use lib.ListN.{take}
-use Rattle.rules.specs.FirstMarks.{insert_first}
-use Rattle.first_marks.proofs.Insertion.{Inserting, inserting-last, inserting-kept, inserting-later, inserting-here}
-use borrow.Author.Rules.{rules}
+use Rattle.first_marks.proofs.Insertion.{inserting-last, inserting-kept, inserting-later, inserting-here}
 use Rattle.first_marks.proofs.inserted.Goals as goal
 
 pub loop-k-init : goal.loop-k-init

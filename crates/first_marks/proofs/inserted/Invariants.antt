@@ -1,10 +1,7 @@
 use Prim.Native.Nat.{◌-◌}
-use native.Mathlib.Omega.{arith}
-use mathlib.Core.Path.{refl}
 use lib.ListN.{take}
 use Rattle.rules.specs.FirstMarks.{insert_first}
-use Rattle.first_marks.proofs.Insertion.{Inserting, inserting-last, inserting-kept, inserting-later, inserting-here}
-use borrow.Author.Rules.{rules}
+use Rattle.first_marks.proofs.Insertion.{Inserting}
 use Rattle.first_marks.proofs.inserted.Given as goal
 
 abbrev pub invariant-loop-k : goal.invariant-loop-k

@@ -1,25 +1,13 @@
-use Prim.Native.Nat.{ℕ, ◌+◌, ◌≤◌, ◌-◌}
-use native.Mathlib.Omega.{arith}
-use mathlib.Core.Path.{◌≡◌, refl, ap, sym, ◌∙◌}
-use mathlib.Core.Bool.{true}
+-- The invariant of the loop of `first_marks::marks_of`: the rows, and the marks of the classes that are left put into them, are the marks of all.
+-- Assumes nothing.
+use Prim.Native.Nat.{◌≤◌, ◌-◌}
+use mathlib.Core.Path.{◌≡◌}
 use mathlib.Core.List.{[], foldl}
-use lib.ListN.{length, get_or, take, drop}
-use Rattle.chart.specs.declared.Triple.{Triple}
-use Rattle.chart.specs.declared.Class.{Class}
+use lib.ListN.{length, take, drop}
 use Rattle.rules.specs.Records.{levels_of}
-use Rattle.rules.specs.Answer.{given}
-use Rattle.rules.specs.FirstMarks.{fitting, firsts_of, insert_first}
-use Rattle.laws.proofs.Answers.{given-rows}
+use Rattle.rules.specs.FirstMarks.{firsts_of, insert_first}
 use Rattle.laws.specs.Lists.{Rising}
-use Rattle.laws.proofs.Lists.{none_left}
-use Rattle.laws.proofs.Arrays.{length_via}
-use Rattle.classes.proofs.Extended.{no_class}
-use Rattle.first_marks.specs.Placed.{Placed, bars_of}
-use Rattle.first_marks.proofs.Insertion.{insert_rises}
-use Rattle.first_marks.proofs.Neighbours.{Reads, reads_first, reads-last, stands_at, first-unfit, first_short, first-beyond, marks-none}
-use Rattle.first_marks.proofs.Neighbours.{marks-some, marks-all}
-use borrow.Author.Tests.{not-true, not-false}
-use borrow.Author.Rules.{rules}
+use Rattle.first_marks.specs.Placed.{bars_of}
 use Rattle.first_marks.proofs.marks_of.Given as goal
 
 abbrev pub invariant-loop-i : goal.invariant-loop-i

@@ -1,5 +1,4 @@
 -- `labels::bar_of` meets its contract. Assumes nothing.
-use borrow.Author.Rules.{rules}
 use Rattle.labels.proofs.Touching.{bars_found}
 use Rattle.labels.proofs.bar_of.Goals as goal
 

@@ -1,13 +1,6 @@
 -- `labels::bars_of` meets its contract. The invariant: the columns of the first k bigs' bars. Assumes nothing.
-use mathlib.Core.Path.{◌≡◌, refl}
-use mathlib.Core.List.{map}
-use Prim.Native.Nat.{◌≤◌, ◌-◌}
-use lib.ListN.{length, take}
+use mathlib.Core.Path.{refl}
 use borrow.Author.Rules.{rules}
-use Rattle.rules.specs.Records.{Levels}
-use Rattle.rules.specs.Ranges.{range_of}
-use Rattle.tables.specs.Tables.{Bigs}
-use Rattle.labels.specs.Touching.{BarColumns}
 use Rattle.labels.proofs.Touching.{columns-more, columns-all}
 use Rattle.labels.proofs.bars_of.Goals as goal
 
@@ -26,4 +19,4 @@ loop-k-preserved c =
 
 pub returns : goal.returns
 returns c =
-    let inv = c.loop-k.invariant in record { wide = (inv.1, inv.2); bar_columns = λ l t. columns-all l _ _ _ t c.loop-k.k _ _ (inv.3 l t) c.loop-k-test.false inv.0; }
+    let inv = c.loop-k.invariant in record { wide = (inv.1, inv.2); bar_columns = λ l t. columns-all l _ _ _ t c.loop-k.k _ _ (inv.3 l t) c.loop-k-test.false inv.0 }

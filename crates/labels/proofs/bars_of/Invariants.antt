@@ -1,13 +1,11 @@
-use mathlib.Core.Path.{◌≡◌, refl}
+use mathlib.Core.Path.{◌≡◌}
 use mathlib.Core.List.{map}
 use Prim.Native.Nat.{◌≤◌, ◌-◌}
 use lib.ListN.{length, take}
-use borrow.Author.Rules.{rules}
 use Rattle.rules.specs.Records.{Levels}
 use Rattle.rules.specs.Ranges.{range_of}
 use Rattle.tables.specs.Tables.{Bigs}
 use Rattle.labels.specs.Touching.{BarColumns}
-use Rattle.labels.proofs.Touching.{columns-more, columns-all}
 use Rattle.labels.proofs.bars_of.Given as goal
 
 abbrev pub invariant-loop-k : goal.invariant-loop-k

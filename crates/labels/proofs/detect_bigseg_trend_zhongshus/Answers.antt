@@ -1,6 +1,5 @@
 -- `labels::detect_bigseg_trend_zhongshus` meets its contract. Assumes nothing.
 use mathlib.Core.Path.{refl, ◌∙◌}
-use borrow.Author.Rules.{rules}
 use Rattle.labels.proofs.Call.{labels_by}
 use Rattle.labels.proofs.detect_bigseg_trend_zhongshus.Goals as goal
 
@@ -18,5 +17,5 @@ labels_of-requires c =
 pub returns : goal.returns
 returns c =
     let made = c.tables_of-begun.ensures in
-    let tables = made.1.0 c.if-begun-ne0.false in
-    c.labels_of.ensures _ _ tables.bigs tables.zones ∙ (labels_by _ _ made.0).1 c.if-begun-ne0.false
+    let tables = made.tables c.if-begun-ne0.false in
+    c.labels_of.ensures _ _ tables.bigs tables.zones ∙ (labels_by _ _ made.number_value).1 c.if-begun-ne0.false

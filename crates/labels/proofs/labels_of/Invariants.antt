@@ -1,18 +1,14 @@
-use mathlib.Core.Path.{◌≡◌, refl}
+use mathlib.Core.Path.{◌≡◌}
 use mathlib.Core.List.{List, ◌++◌, map}
 use mathlib.Core.Option.{none}
 use Prim.Native.Nat.{◌≤◌, ◌-◌}
-use native.Mathlib.Omega.{arith}
 use lib.ListN.{length, take, drop}
-use borrow.Author.Rules.{rules}
 use Rattle.chart.specs.declared.Zone.{Zone}
 use Rattle.rules.specs.Records.{Levels}
 use Rattle.rules.specs.Labels.{labels_from}
 use Rattle.tables.specs.Tables.{Bigs, Zoned}
 use Rattle.labels.specs.Bytes.{label_bytes}
 use Rattle.labels.specs.Steps.{named_in, next_name}
-use Rattle.labels.proofs.Touching.{count_touches}
-use Rattle.labels.proofs.Steps.{label_next, labels-step, labels-end}
 use Rattle.labels.proofs.labels_of.Given as goal
 
 abbrev pub invariant-loop-k : goal.invariant-loop-k

@@ -1,10 +1,6 @@
 -- `labels::lone` meets its contract. The invariant: the ranges counted, and those of what is left that touch, are all that touch. Assumes nothing.
-use mathlib.Core.Path.{◌≡◌}
-use Prim.Native.Nat.{◌+◌, ◌≤◌, ◌-◌}
 use native.Mathlib.Omega.{arith}
-use lib.ListN.{take, drop}
 use borrow.Author.Rules.{rules}
-use Rattle.labels.specs.Touching.{touching}
 use Rattle.labels.proofs.Touching.{touch-most, touching-next, touching-end, lone_columns}
 use Rattle.labels.proofs.lone.Goals as goal
 

@@ -1,10 +1,7 @@
 use mathlib.Core.Path.{◌≡◌}
 use Prim.Native.Nat.{◌+◌, ◌≤◌, ◌-◌}
-use native.Mathlib.Omega.{arith}
 use lib.ListN.{take, drop}
-use borrow.Author.Rules.{rules}
 use Rattle.labels.specs.Touching.{touching}
-use Rattle.labels.proofs.Touching.{touch-most, touching-next, touching-end, lone_columns}
 use Rattle.labels.proofs.lone.Given as goal
 
 abbrev pub invariant-loop-k : goal.invariant-loop-k

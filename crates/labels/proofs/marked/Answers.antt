@@ -1,7 +1,6 @@
 -- `labels::marked` meets its contract. Assumes nothing.
 use mathlib.Core.Path.{◌∙◌}
 use native.Mathlib.Omega.{arith}
-use borrow.Author.Rules.{rules}
 use Rattle.labels.proofs.marked.Goals as goal
 
 pub returns-then-alone : goal.returns-then-alone

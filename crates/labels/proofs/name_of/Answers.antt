@@ -1,6 +1,5 @@
 -- `labels::name_of` meets its contract: each way through the tests is a law. Assumes nothing.
 use native.Mathlib.Omega.{arith}
-use borrow.Author.Rules.{rules}
 use Rattle.labels.proofs.Steps.{name-first, name-other, name_above, name_below, name-none}
 use Rattle.labels.proofs.name_of.Goals as goal
 

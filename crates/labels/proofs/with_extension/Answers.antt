@@ -1,5 +1,4 @@
 -- `labels::with_extension` meets its contract: three bytes, one behind the other. Assumes nothing.
-use borrow.Author.Rules.{rules}
 use Rattle.labels.proofs.Names.{extended}
 use Rattle.labels.proofs.with_extension.Goals as goal
 
