@@ -80,13 +80,13 @@ module _ (bars : List (List ℕ)) (prices : List (List Float)) (m : ℕ) (scan :
     -- the next pair
     module _ (r : Pair) (pairs : NextPair m bars prices scan.direction scan.limit at r) where
       pub put-over : r ≡ Over → PutsPairs m bars prices scan k out₀ count out
-      put-over e c stop t lim = rw (pair-over _ _ _ r (pairs c stop t lim) e) at (so_far.left c stop t lim)
+      put-over e c stop t lim = rw (pair-over (pair_ends c stop scan.direction) c.bigs _ r (pairs c stop t lim) e) at (so_far.left c stop t lim)
 
       module _ (next bar : ℕ) (e : r ≡ At next bar) where
         here :
             (c : Levels) (stop : ℕ → Bool) → Bigs c m bars prices → Limits scan.limit stop
             → pair_ends c stop scan.direction (drop at c.bigs) ≡ bar ∷ pair_ends c stop scan.direction (drop next c.bigs)
-        here c stop t lim = pair-next _ _ _ r (pairs c stop t lim) next bar e
+        here c stop t lim = pair-next (pair_ends c stop scan.direction) c.bigs _ r (pairs c stop t lim) next bar e
 
         bar-end : (c : Levels) → Bigs c m bars prices → Memᴰ bar (end_bars c)
         bar-end c t =

@@ -60,13 +60,13 @@ module _
     scan : ZoneScan c zs z s
     scan = let t = lt_at zs i (omega (arith, by-zone.count)) in rw (is, at-getD zs i no_zone t.0 t.1) (by-scan.are i t.0 t.1)
 
-    pub third_at :
+    pub zone_third_at :
         (zone : Bool) → zone ≡ true → (hit : Hit)
         → ((stop : ℕ → Bool) → Limits s.limit stop
         → find (beats q (is_up s.direction) edge) (pair_ends c stop s.direction (drop s.from c.bigs)) ≡ hit_bar hit)
         → LentPrice q (is_up s.direction) hit → zone_third c q zs z ≡ hit_marks zone (is_up s.direction) edge hit
     unfolding zone_third
-    third_at zone true-zone hit found w =
+    zone_third_at zone true-zone hit found w =
         let own : edge ≡ cond (is_up s.direction) z.zg z.zd = rw (← zg-of zs n zb zp by-zone i h, ← zd-of zs n zb zp by-zone i h) edged in
         let same : edge ≡ edge_of c z = rw scan.way own in
         let first : find (beats q (side_of c z) (edge_of c z)) (scanned c zs z) ≡ hit_bar hit =

@@ -32,7 +32,8 @@ ground_of false p = ground.Anchor p
 -- the mark of a key and of a row, which has the price and the ground's price
 abbrev pub third_in : Bool → ℕ → List Float → ThirdMark
 third_in zone key row =
-    record { bar_index = bar_in key; price = get_or row 0 nan; is_buy = side_in key; ground = ground_of zone (get_or row 1 nan) }
+    let ground : Ground = ground_of zone (get_or row 1 nan) in
+    record { bar_index = bar_in key; price = get_or row 0 nan; is_buy = side_in key; ground = ground }
 
 -- the first `count` keys and rows are these marks; those at places before `zoned` are of zones, the others of anchors
 pub record Marked (zoned count : ℕ) (keys : List ℕ) (marks : List (List Float)) (l : List ThirdMark) : Type 0 where

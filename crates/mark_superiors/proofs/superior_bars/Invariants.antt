@@ -1,6 +1,5 @@
 use Prim.Native.Nat.{◌-◌}
-use borrow.Author.Rules.{rules}
-use Rattle.mark_superiors.proofs.SuperiorBars.{ZonesSoFar, taken-first, taken-over, taken-other, taken_next}
+use Rattle.mark_superiors.proofs.SuperiorBars.{ZonesSoFar}
 use Rattle.mark_superiors.proofs.superior_bars.Given as goal
 
 abbrev pub invariant-loop-i : goal.invariant-loop-i

@@ -1,10 +1,5 @@
-use Prim.Native.Nat.{ℕ, ◌-◌}
-use native.Mathlib.Omega.{arith}
-use mathlib.Core.Path.{refl}
-use mathlib.Core.List.{List}
-use borrow.Author.Rules.{rules}
-use Rattle.mark_superiors.proofs.ZoneBars.{room_among}
-use Rattle.mark_superiors.proofs.SuperiorRows.{RowsSoFar, numbered-first, numbered-all, numbered_next, bars-there}
+use Prim.Native.Nat.{◌-◌}
+use Rattle.mark_superiors.proofs.SuperiorRows.{RowsSoFar}
 use Rattle.mark_superiors.proofs.superior_rows.Given as goal
 
 abbrev pub invariant-loop-i : goal.invariant-loop-i

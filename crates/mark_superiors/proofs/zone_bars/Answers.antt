@@ -1,17 +1,9 @@
 -- `mark_superiors::zone_bars` meets its contract. The invariant: the bars so far, with those of the bigs that are left put in, come to all.
 -- Assumes nothing.
-use Prim.Native.Nat.{◌-◌, ◌≤◌}
 use native.Mathlib.Omega.{arith}
-use borrow.Author.Rules.{rules}
 use Rattle.mark_scan.proofs.Pairs.{pair_later}
-use Rattle.mark_superiors.proofs.ZoneBars.{PairsSoFar, put_first, put-room, put-none, put-over, put-pair}
-use Rattle.mark_superiors.proofs.zone_bars.Goals.{At-loop-at}
+use Rattle.mark_superiors.proofs.ZoneBars.{put_first, put-room, put-none, put-over, put-pair}
 use Rattle.mark_superiors.proofs.zone_bars.Goals as goal
-
-few : (c : At-loop-at) → c.loop-at.count ≤ 256
-few c =
-    let chart = c.requires.bigs in
-    put-room _ _ _ _ _ _ _ _ _ c.loop-at.at c.loop-at.invariant chart.0 chart.1 chart.2
 
 pub loop-at-init : goal.loop-at-init
 loop-at-init c =
@@ -20,21 +12,14 @@ loop-at-init c =
 pub returns-in_default : goal.returns-in_default
 returns-in_default c =
     let inv = c.loop-at.invariant in
-    let pair = c.next_pair-pair in record { upper_bound = (inv.low, inv.wide); puts_pairs = put-over _ _ _ _ _ _ _ _ _ c.loop-at.at inv pair.result pair.ensures.1 c.in_default.is; }
-
--- CONVERT lost goal overflow-cast-insert-bar
--- cast-insert-bar : tie.Need-overflow-cast-insert-bar invariant-loop decreases-loop
--- cast-insert-bar c =
---     let told = c.before.before in
---     let found = told.before.before in
---     let below = (pair_later _ _ found.next-pair.result _ _ found.next-pair.ensures.0 told.pair.given.1).2 in
---     search rules
+    let pair = c.next_pair-pair in record { upper_bound = (inv.low, inv.wide); puts_pairs = put-over _ _ _ _ _ _ _ _ _ c.loop-at.at inv pair.result pair.ensures.next_pair c.in_default.is }
 
 pub insert_bar-put-requires : goal.insert_bar-put-requires
 insert_bar-put-requires c =
     let chart = c.requires.bigs in
     let inv = c.loop-at.invariant in
-    (omega (arith, few c.before.before.before.before, inv.wide), inv.hinted, (inv.among chart.0 chart.1 chart.2).rising)
+    let few = put-room _ _ _ _ _ _ _ _ _ c.loop-at.at inv chart.0 chart.1 chart.2 in
+    (omega (arith, few, inv.wide), inv.hinted, (inv.among chart.0 chart.1 chart.2).rising)
 
 pub loop-at-smaller : goal.loop-at-smaller
 loop-at-smaller c =
@@ -45,9 +30,11 @@ pub loop-at-preserved : goal.loop-at-preserved
 loop-at-preserved c =
     let put = c.insert_bar-put in
     let pair = c.next_pair-pair in
-    put-pair _ _ _ _ _ _ _ _ _ c.loop-at.at c.loop-at.invariant pair.result pair.ensures.1 _ _ c.in-At.is
-    _ _ _ put.ensures.0 put.ensures.1.0 (omega (arith, few c.before.before.before.before.before.before.before.before.before, put.ensures.1.1.1)) put.ensures.1.1.2
+    let chart = c.requires.bigs in
+    let few = put-room _ _ _ _ _ _ _ _ _ c.loop-at.at c.loop-at.invariant chart.0 chart.1 chart.2 in
+    put-pair _ _ _ _ _ _ _ _ _ c.loop-at.at c.loop-at.invariant pair.result pair.ensures.next_pair _ _ c.in-At.is
+    _ _ _ put.ensures.bars_after put.ensures.bars_len_unchanged (omega (arith, few, put.ensures.n_le_count.1)) put.ensures.n_le_count.2
 
 pub returns : goal.returns
 returns c =
-    let inv = c.loop-at.invariant in record { upper_bound = (inv.low, inv.wide); puts_pairs = put-none _ _ _ _ _ _ _ _ _ c.loop-at.at inv c.loop-at-test.false; }
+    let inv = c.loop-at.invariant in record { upper_bound = (inv.low, inv.wide); puts_pairs = put-none _ _ _ _ _ _ _ _ _ c.loop-at.at inv c.loop-at-test.false }

@@ -1,8 +1,5 @@
-use Prim.Native.Nat.{◌-◌, ◌≤◌}
-use native.Mathlib.Omega.{arith}
-use borrow.Author.Rules.{rules}
-use Rattle.mark_scan.proofs.Pairs.{pair_later}
-use Rattle.mark_superiors.proofs.ZoneBars.{PairsSoFar, put_first, put-room, put-none, put-over, put-pair}
+use Prim.Native.Nat.{◌-◌}
+use Rattle.mark_superiors.proofs.ZoneBars.{PairsSoFar}
 use Rattle.mark_superiors.proofs.zone_bars.Given as goal
 
 abbrev pub invariant-loop-at : goal.invariant-loop-at

@@ -1,17 +1,11 @@
-use Prim.Native.Nat.{ℕ, ◌-◌}
-use native.Mathlib.Omega.{arith}
-use mathlib.Core.Path.{◌≡◌, refl}
-use mathlib.Core.Bool.{Bool}
+use Prim.Native.Nat.{◌-◌}
+use mathlib.Core.Path.{◌≡◌}
 use lib.ListN.{drop}
-use borrow.Author.Rules.{rules}
 use Rattle.rules.specs.Lists.{find}
 use Rattle.rules.specs.Records.{Levels}
 use Rattle.rules.specs.Marks.{beats}
 use Rattle.tables.specs.Tables.{Bigs}
 use Rattle.mark_hits.specs.Anchors.{end_bars_in}
-use Rattle.mark_hits.proofs.Ends.{end_later}
-use Rattle.mark_hits.proofs.Anchors.{bars-none, bars-over, bars-next}
-use Rattle.mark_hits.proofs.Hits.{hits-over, hit-first, hit_later}
 use Rattle.mark_thirds.proofs.anchor_hit.Given as goal
 
 abbrev pub invariant-loop-k : goal.invariant-loop-k

@@ -1,12 +1,8 @@
 -- `mark_thirds::seen` meets its contract. The invariant: whether the key was met or is among those that are left is whether it is among all. Assumes nothing.
-use Prim.Native.Nat.{ℕ, ◌-◌, ◌≤◌}
+use Prim.Native.Nat.{ℕ}
 use native.Mathlib.Omega.{arith}
-use mathlib.Core.Path.{◌≡◌, refl}
-use mathlib.Core.Bool.{◌||◌}
-use lib.ListN.{take, drop}
+use mathlib.Core.Path.{refl}
 use lib.Dec.{eqb}
-use borrow.Author.Rules.{rules}
-use Rattle.rules.specs.Lists.{any}
 use Rattle.levels.proofs.Tests.{met-more, met-none}
 use Rattle.mark_thirds.proofs.seen.Goals as goal
 

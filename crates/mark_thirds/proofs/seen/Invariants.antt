@@ -1,12 +1,9 @@
 use Prim.Native.Nat.{ℕ, ◌-◌, ◌≤◌}
-use native.Mathlib.Omega.{arith}
-use mathlib.Core.Path.{◌≡◌, refl}
+use mathlib.Core.Path.{◌≡◌}
 use mathlib.Core.Bool.{◌||◌}
 use lib.ListN.{take, drop}
 use lib.Dec.{eqb}
-use borrow.Author.Rules.{rules}
 use Rattle.rules.specs.Lists.{any}
-use Rattle.levels.proofs.Tests.{met-more, met-none}
 use Rattle.mark_thirds.proofs.seen.Given as goal
 
 abbrev pub invariant-loop-i : goal.invariant-loop-i

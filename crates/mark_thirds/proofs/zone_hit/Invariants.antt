@@ -1,6 +1,5 @@
 use Prim.Native.Nat.{ℕ, ◌-◌}
-use native.Mathlib.Omega.{arith}
-use mathlib.Core.Path.{◌≡◌, refl}
+use mathlib.Core.Path.{◌≡◌}
 use mathlib.Core.Bool.{Bool}
 use lib.ListN.{drop}
 use Rattle.rules.specs.Lists.{find}
@@ -8,9 +7,6 @@ use Rattle.rules.specs.Records.{is_up, Levels}
 use Rattle.rules.specs.Marks.{beats, pair_ends}
 use Rattle.tables.specs.Tables.{Bigs}
 use Rattle.mark_scan.specs.Scan.{Limits}
-use Rattle.mark_scan.proofs.Pairs.{pairs-none, pair-over, pair-next, pair_later}
-use Rattle.mark_hits.proofs.Hits.{hits-over, hit-first, hit_later}
-use borrow.Author.Rules.{rules}
 use Rattle.mark_thirds.proofs.zone_hit.Given as goal
 
 abbrev pub invariant-loop-at : goal.invariant-loop-at
