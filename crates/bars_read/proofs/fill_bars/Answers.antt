@@ -1,7 +1,5 @@
 -- `bars_read::fill_bars` meets its contract. The invariant: the bars so far in the first places, and what is left of an accepted file. Assumes nothing.
-use Prim.Native.Nat.{◌-◌}
-use borrow.Author.Rules.{rules}
-use Rattle.bars_read.proofs.Fills.{Filling, filling_begins, fills-on, filled}
+use Rattle.bars_read.proofs.Fills.{filling_begins, fills-on, filled}
 use Rattle.bars_read.proofs.fill_bars.Goals as goal
 
 pub loop-bars-init : goal.loop-bars-init

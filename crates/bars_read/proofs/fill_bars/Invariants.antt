@@ -1,6 +1,5 @@
 use Prim.Native.Nat.{◌-◌}
-use borrow.Author.Rules.{rules}
-use Rattle.bars_read.proofs.Fills.{Filling, filling_begins, fills-on, filled}
+use Rattle.bars_read.proofs.Fills.{Filling}
 use Rattle.bars_read.proofs.fill_bars.Given as goal
 
 abbrev pub invariant-loop-bars : goal.invariant-loop-bars

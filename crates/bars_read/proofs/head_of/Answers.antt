@@ -1,6 +1,5 @@
 -- `bars_read::head_of` meets its contract: each way through the tests is a law. Assumes nothing.
 use native.Mathlib.Omega.{arith}
-use borrow.Author.Rules.{rules}
 use borrow.Author.Tests.{not-true, not-false}
 use Rattle.bars_read.proofs.Heads.{head-short, head-unknown, head-cut, head-refused, head-bar}
 use Rattle.bars_read.proofs.head_of.Goals as goal

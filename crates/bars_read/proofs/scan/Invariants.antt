@@ -1,8 +1,6 @@
 use Prim.Native.Nat.{◌-◌}
-use native.Mathlib.Omega.{arith}
 use lib.ListN.{length}
-use borrow.Author.Rules.{rules}
-use Rattle.bars_read.proofs.Scans.{Reached, begins, Turn, stops, has_place, goes_on, ends}
+use Rattle.bars_read.proofs.Scans.{Reached}
 use Rattle.bars_read.proofs.scan.Given as goal
 
 abbrev pub invariant-loop-at : goal.invariant-loop-at

@@ -1,13 +1,7 @@
 -- `mark_anchors::anchor_limit` meets its contract. The invariant: the first superior of the other direction is the first of those from place j
 -- on. Assumes nothing.
-use Prim.Native.Nat.{◌-◌, ◌≤◌}
-use mathlib.Core.Path.{◌≡◌, refl}
-use lib.ListN.{drop}
-use borrow.Author.Rules.{rules}
-use Rattle.rules.specs.Lists.{find}
-use Rattle.rules.specs.Records.{Levels}
-use Rattle.tables.specs.Tables.{Sups}
-use Rattle.mark_anchors.proofs.Stops.{other, other_none, other-here, other-later}
+use mathlib.Core.Path.{refl}
+use Rattle.mark_anchors.proofs.Stops.{other_none, other-here, other-later}
 use Rattle.mark_anchors.proofs.anchor_limit.Goals as goal
 
 pub loop-j-init : goal.loop-j-init

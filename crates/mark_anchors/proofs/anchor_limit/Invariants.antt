@@ -1,11 +1,10 @@
 use Prim.Native.Nat.{◌-◌, ◌≤◌}
-use mathlib.Core.Path.{◌≡◌, refl}
+use mathlib.Core.Path.{◌≡◌}
 use lib.ListN.{drop}
-use borrow.Author.Rules.{rules}
 use Rattle.rules.specs.Lists.{find}
 use Rattle.rules.specs.Records.{Levels}
 use Rattle.tables.specs.Tables.{Sups}
-use Rattle.mark_anchors.proofs.Stops.{other, other_none, other-here, other-later}
+use Rattle.mark_anchors.proofs.Stops.{other}
 use Rattle.mark_anchors.proofs.anchor_limit.Given as goal
 
 abbrev pub invariant-loop-j : goal.invariant-loop-j

@@ -1,9 +1,7 @@
 -- `mark_anchors::anchor_rows` meets its contract. The invariant: the rows so far, with those of the anchors that are left pushed, come to all.
 -- Assumes nothing.
-use Prim.Native.Nat.{◌-◌}
 use native.Mathlib.Omega.{arith}
-use borrow.Author.Rules.{rules}
-use Rattle.mark_anchors.proofs.Rows.{AnchorsSoFar, anchors-first, anchors-all, anchors-nowhere, anchors-at}
+use Rattle.mark_anchors.proofs.Rows.{anchors-first, anchors-all, anchors-nowhere, anchors-at}
 use Rattle.mark_anchors.proofs.anchor_rows.Goals as goal
 
 pub loop-i-init : goal.loop-i-init
@@ -18,7 +16,7 @@ loop-i-preserved-in_default c =
 pub hit_rows-count-requires : goal.hit_rows-count-requires
 hit_rows-count-requires c =
     let inv = c.loop-i.invariant in
-    let room = c.requires.has_room in record { bigs_bound = (c.requires.anchors_le_bigs.1, omega (arith, inv.grown.long, c.requires.anchors_le_bigs), omega (arith, inv.grown.wide, c.requires.anchors_le_bigs)); has_room = (room.0, room.1, inv.room room.0 room.1 room.2); }
+    let room = c.requires.has_room in record { bigs_bound = (c.requires.anchors_le_bigs.1, omega (arith, inv.grown.long, c.requires.anchors_le_bigs), omega (arith, inv.grown.wide, c.requires.anchors_le_bigs)); has_room = (room.0, room.1, inv.room room.0 room.1 room.2) }
 
 pub loop-i-preserved : goal.loop-i-preserved
 loop-i-preserved c =
@@ -28,4 +26,4 @@ loop-i-preserved c =
 
 pub returns : goal.returns
 returns c =
-    let inv = c.loop-i.invariant in record { anchor_rows = anchors-all _ _ _ c.args.side _ _ _ _ _ _ _ _ _ _ c.loop-i.i inv c.loop-i-test.false; keeps_ends = inv.room; grown = inv.grown; }
+    let inv = c.loop-i.invariant in record { anchor_rows = anchors-all _ _ _ c.args.side _ _ _ _ _ _ _ _ _ _ c.loop-i.i inv c.loop-i-test.false; keeps_ends = inv.room; grown = inv.grown }

@@ -1,7 +1,5 @@
 use Prim.Native.Nat.{◌-◌}
-use native.Mathlib.Omega.{arith}
-use borrow.Author.Rules.{rules}
-use Rattle.mark_anchors.proofs.Rows.{AnchorsSoFar, anchors-first, anchors-all, anchors-nowhere, anchors-at}
+use Rattle.mark_anchors.proofs.Rows.{AnchorsSoFar}
 use Rattle.mark_anchors.proofs.anchor_rows.Given as goal
 
 abbrev pub invariant-loop-i : goal.invariant-loop-i

@@ -1,6 +1,5 @@
 -- `mark_anchors::limit_at` meets its contract. Assumes nothing.
 use mathlib.Core.Path.{sym, ◌∙◌}
-use borrow.Author.Rules.{rules}
 use Rattle.mark_anchors.proofs.Stops.{limit-no-big, limit-nowhere, limit-there}
 use Rattle.mark_anchors.proofs.limit_at.Goals as goal
 
