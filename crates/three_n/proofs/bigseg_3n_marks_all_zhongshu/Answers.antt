@@ -9,28 +9,15 @@ use Rattle.mark_hits.proofs.Quotes.{quotes_fit}
 use Rattle.mark_thirds.proofs.Marked.{marked-keys}
 use Rattle.three_n.proofs.Parts.{ends-inside}
 use Rattle.three_n.proofs.Refused.{n-by, quotes-good, ends-good}
-use Rattle.three_n.proofs.bigseg_3n_marks_all_zhongshu.Goals.{After-own_number-own, After-tables_of-begun, Else-begun-ne0}
 use Rattle.three_n.proofs.bigseg_3n_marks_all_zhongshu.Goals as goal
-
-abbrev priced : After-tables_of-begun → After-own_number-own
-priced c = c.before.before.before.before.before.before
-
-abbrev begun : Else-begun-ne0 → After-tables_of-begun
-begun c = c.before.before
-
-abbrev quotes : After-own_number-own → Quotes
-quotes c = record { highs = c.args.highs.now; lows = c.args.lows.now }
-
--- the call has no number of its own
-none : (c : Else-begun-ne0) → (priced (begun c)).own_number-own.result ≡ 0
-none c = own_none _ _ (sym c.tables_of-begun.ensures.number_value ∙ c.if-begun-ne0.false)
 
 pub tables_of-begun-requires : goal.tables_of-begun-requires
 tables_of-begun-requires c = ((refl, refl), (refl, refl), refl)
 
 pub returns-then-begun-ne0 : goal.returns-then-begun-ne0
 returns-then-begun-ne0 c =
-    c.refusal.ensures ∙ (n-by _ (quotes c.before.before.before.before.before.before.before.before.before) _ c.own_number-own.ensures _ c.tables_of-begun.ensures.number_value).0 c.if-begun-ne0.true
+    let quotes : Quotes = record { highs = c.args.highs.now; lows = c.args.lows.now } in
+    c.refusal.ensures ∙ (n-by _ quotes _ c.own_number-own.ensures _ c.tables_of-begun.ensures.number_value).0 c.if-begun-ne0.true
 
 pub scans_of-requires : goal.scans_of-requires
 scans_of-requires c =
@@ -39,27 +26,40 @@ scans_of-requires c =
 
 pub thirds_of-found-requires : goal.thirds_of-found-requires
 thirds_of-found-requires c =
-    let fit = quotes_fit _ _ (quotes-good c.args.chart (quotes c.before.before.before.before.before.before.before.before.before.before.before.before.before.before.before.before.before.before.before.before.before.before) _ c.own_number-own.ensures (none c.before.before.before.before.before.before.before.before.before.before.before.before.before.before)) in
+    let quotes : Quotes = record { highs = c.args.highs.now; lows = c.args.lows.now } in
+    let none : c.own_number-own.result ≡ 0 = own_none _ _ (sym c.tables_of-begun.ensures.number_value ∙ c.if-begun-ne0.false) in
+    let fit = quotes_fit _ _ (quotes-good c.args.chart quotes _ c.own_number-own.ensures none) in
     ((c.tables_of-begun.ensures.tables c.if-begun-ne0.false).fits, fit.0, fit.1, (omega arith, refl))
 
 pub rows_by-requires : goal.rows_by-requires
 rows_by-requires c =
+    let quotes : Quotes = record { highs = c.args.highs.now; lows = c.args.lows.now } in
+    let none : c.own_number-own.result ≡ 0 = own_none _ _ (sym c.tables_of-begun.ensures.number_value ∙ c.if-begun-ne0.false) in
     let t = c.tables_of-begun.ensures.tables c.if-begun-ne0.false in
     let s = c.scans_of.ensures.scanned _ _ t in
-    let fit = quotes_fit _ _ (quotes-good c.args.chart (quotes c.before.before.before.before.before.before.before.before.before.before.before.before.before.before.before.before.before.before.before.before.before.before.before.before.before.before.before.before.before) _ c.own_number-own.ensures (none c.before.before.before.before.before.before.before.before.before.before.before.before.before.before.before.before.before.before.before.before.before)) in
+    let fit = quotes_fit _ _ (quotes-good c.args.chart quotes _ c.own_number-own.ensures none) in
     let room = c.thirds_of-found.ensures.all_bound in record { fits = (t.fits, fit.0, fit.1, room.1.0); ready = (
         levels_of c.args.chart,
         record {
           tables = s;
           few = room.0;
           thirds = marked-keys _ _ _ _ _ (c.thirds_of-found.ensures.gathers_thirds _ _ t s) (omega (arith, room.0, room.1.0));
-          inside = ends-inside _ _ (ends-good c.args.chart (quotes c.before.before.before.before.before.before.before.before.before.before.before.before.before.before.before.before.before.before.before.before.before.before.before.before.before.before.before.before.before) _ c.own_number-own.ensures (none c.before.before.before.before.before.before.before.before.before.before.before.before.before.before.before.before.before.before.before.before.before)) fit.2;
+          inside = ends-inside _ _ (ends-good c.args.chart quotes _ c.own_number-own.ensures none) fit.2;
         },
       ); }
 
 pub returns : goal.returns
-unfolding rows-by-requires
 returns c =
-    let ready = (rows_by-requires c.before.before c.rows_by.lifetimes).1.1 in
-    c.rows_by.ensures _ ready
-    ∙ (n-by _ (quotes c.before.before.before.before.before.before.before.before.before.before.before.before.before.before.before.before.before.before.before.before.before.before.before.before.before.before.before.before.before.before.before) _ c.own_number-own.ensures _ c.tables_of-begun.ensures.number_value).1 c.if-begun-ne0.false
+    let quotes : Quotes = record { highs = c.args.highs.now; lows = c.args.lows.now } in
+    let none : c.own_number-own.result ≡ 0 = own_none _ _ (sym c.tables_of-begun.ensures.number_value ∙ c.if-begun-ne0.false) in
+    let t = c.tables_of-begun.ensures.tables c.if-begun-ne0.false in
+    let s = c.scans_of.ensures.scanned _ _ t in
+    let fit = quotes_fit _ _ (quotes-good c.args.chart quotes _ c.own_number-own.ensures none) in
+    let room = c.thirds_of-found.ensures.all_bound in
+    c.rows_by.ensures (levels_of c.args.chart) (record {
+          tables = s;
+          few = room.0;
+          thirds = marked-keys _ _ _ _ _ (c.thirds_of-found.ensures.gathers_thirds _ _ t s) (omega (arith, room.0, room.1.0));
+          inside = ends-inside _ _ (ends-good c.args.chart quotes _ c.own_number-own.ensures none) fit.2;
+        })
+    ∙ (n-by _ quotes _ c.own_number-own.ensures _ c.tables_of-begun.ensures.number_value).1 c.if-begun-ne0.false
