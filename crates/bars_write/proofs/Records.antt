@@ -3,7 +3,7 @@ use Prim.Native.Nat.{ℕ, ◌+◌, ◌/◌, ◌%◌, ◌≤◌, ◌<◌}
 use native.Mathlib.Omega.{arith}
 use native.Mathlib.Numerals.{add-one}
 use mathlib.Core.Path.{◌≡◌, refl, ◌∙◌}
-use mathlib.Core.List.{List, [], ◌∷◌}
+use mathlib.Core.List.{List, [], ◌∷◌, ◌++◌}
 use lib.ListN.{length, get_or, drop, drop_of_length-le}
 use lib.Seq.{drop-cons}
 use lib.Ieee.{Float, nan}
@@ -23,6 +23,11 @@ pub bar_made :
     (bar_bytes x)
 unfolding bar_bytes bar_mark ascii bytes_of
 bar_made x p q a b e f g h = rw (e, f, g, h)
+
+-- a record that is copied to the start of a lent part
+pub bar_copied : (x : Bar) (bytes old new : List ℕ) → bytes ≡ bar_bytes x → new ≡ bytes → new ++ drop 20 old ≡ fill (bar_bytes x) old
+unfolding bar_bytes bar_mark ascii bytes_of
+bar_copied x bytes old new e h = rw (h, e)
 
 module _ (i : ℕ) (hs ls : List Float) (e : length hs ≡ length ls) where
   pub bar-next :

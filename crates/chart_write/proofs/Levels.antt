@@ -3,14 +3,14 @@ use Prim.Native.Nat.{ℕ, ◌+◌, ◌≤◌, ◌<◌}
 use native.Mathlib.Omega.{arith}
 use mathlib.Core.Path.{◌≡◌, refl, ap}
 use mathlib.Core.Bool.{false}
-use mathlib.Core.List.{List, [], map}
+use mathlib.Core.List.{List, [], map, ◌++◌}
 use lib.ListN.{length, get_or, take, drop}
 use Rattle.chart.specs.declared.Stroke.{Stroke}
 use Rattle.chart.specs.declared.Triple.{Triple}
 use Rattle.price.specs.Bytes.{bytes_of}
 use Rattle.rules.specs.Lists.{any, each}
 use Rattle.rules.specs.Refusals.{wrong_bytes, bad_prices, wrong_stroke}
-use Rattle.rules.specs.File.{stroke, triple_bytes, record_bytes}
+use Rattle.rules.specs.File.{stroke, triple_bytes, record_bytes, fill}
 use Rattle.laws.proofs.FileBytes.{length-stroke}
 use Rattle.laws.proofs.Lists.{any_at}
 use Rattle.laws.proofs.Tests.{or_r}
@@ -20,9 +20,13 @@ use Rattle.chart_write.specs.Marked.{marked}
 use Rattle.laws.proofs.FilePut.{Next}
 
 -- how long a record is
-length_marked : (a b : ℕ) (t : Triple) → length (marked a b t) ≡ 7
+pub length_marked : (a b : ℕ) (t : Triple) → length (marked a b t) ≡ 7
 unfolding marked triple_bytes bytes_of
 length_marked a b t = refl
+
+-- a record of n bytes that is copied to the start of a lent part
+pub copied : (n : ℕ) (made bytes old new : List ℕ) → length made ≡ n → bytes ≡ made → new ≡ bytes → new ++ drop n old ≡ fill made old
+copied n made bytes old new l e h = rw (h, e, l)
 
 module _ (a b n i : ℕ) (xs : List Triple) (h : n ≤ length xs) where
   pub triple-next :

@@ -1,6 +1,5 @@
 -- `chart_read::checked_record` meets its contract: the mark says which function reads. Assumes nothing.
 use native.Mathlib.Omega.{arith}
-use borrow.Author.Rules.{rules}
 use Rattle.chart_read.proofs.RecordKinds.{stroke-width, level-width, bar_given}
 use Rattle.chart_read.proofs.checked_record.Goals as goal
 

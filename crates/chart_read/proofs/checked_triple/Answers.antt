@@ -1,6 +1,5 @@
 -- `chart_read::checked_triple` meets its contract. Assumes nothing.
 use borrow.Author.Tests.{lt-ltb, le-ltb}
-use borrow.Author.Rules.{rules}
 use Rattle.chart_read.proofs.RecordKinds.{triple-direction, triple-given}
 use Rattle.chart_read.proofs.checked_triple.Goals as goal
 

@@ -1,0 +1,26 @@
+-- `bars_trip::write_and_read_bars` meets its contract: the writing's refusal, or the reading of the bytes written. Assumes nothing.
+use mathlib.Core.Path.{sym}
+use lib.Seq.{length-take-le}
+use Rattle.bars_trip.proofs.Trip.{count_fits, refused-trip, given-trip}
+use borrow.Author.Rules.{rules}
+use Rattle.bars_trip.proofs.write_and_read_bars.Goals as goal
+
+pub returns-then-done-ne0 : goal.returns-then-done-ne0
+returns-then-done-ne0 c =
+    let w = c.write_bars-done.ensures in
+    refused-trip _ _ _ _ _ w.count_value w.buffer_after _ c.if-done-ne0.true
+
+pub slice_bounds-read_bars-end : goal.slice_bounds-read_bars-end
+slice_bounds-read_bars-end c =
+    let w = c.write_bars-done.ensures in
+    count_fits _ _ _ _ _ w.count_value w.buffer_after c.if-done-ne0.false (search rules)
+
+pub slice_bounds-read_bars-end-2 : goal.slice_bounds-read_bars-end-2
+slice_bounds-read_bars-end-2 c =
+    let w = c.write_bars-done.ensures in
+    sym (length-take-le _ _ (count_fits _ _ _ _ _ w.count_value w.buffer_after c.if-done-ne0.false (search rules)))
+
+pub returns : goal.returns
+returns c =
+    let w = c.write_bars-done.ensures in
+    given-trip _ _ _ _ _ w.count_value w.buffer_after _ c.if-done-ne0.false _ _ (c.read_bars.ensures.bars_value, c.read_bars.ensures.lows_after)
