@@ -2,13 +2,13 @@
 use Prim.Native.Nat.{ℕ, zero, suc, ◌<◌}
 use mathlib.Core.Path.{◌≡◌, refl}
 use mathlib.Core.Bool.{Bool, false}
-use mathlib.Core.List.{List, [], ◌∷◌, map}
+use mathlib.Core.List.{List, [], ◌∷◌}
 use lib.ListN.{take}
 use base.Fml.{Fml}
 use mir.Val.{Val}
 use denote.Shadow.{shadow}
 use denote.Array.{each}
-use denote.Struct.Field.{array_field}
+use denote.Builtin.{Array}
 use Rattle.chart.specs.declared.Chart.{Chart}
 use Rattle.chart.specs.declared.Stroke.{Stroke}
 use Rattle.chart.specs.declared.Triple.{Triple}
@@ -26,31 +26,31 @@ narrow_two : (a b : ℕ) → a < 65536 → b < 65536 → wide_two a b ≡ false
 narrow_two a b h k = or_i _ _ (lt-leb 65536 a h) (lt-leb 65536 b k)
 
 narrow_stroke :
-    (s : Stroke) (u : Val) → shadow ((strokes.the_field).row.own_val ((strokes.the_field).into s) (u ∷ [])) → wide_two s.start_bar s.end_bar ≡ false
+    (s : Stroke) (u : Val) → shadow ((strokes.the_row).own_val s (u ∷ [])) → wide_two s.start_bar s.end_bar ≡ false
 narrow_stroke s u o = let bars = o.1.1.1.1 in narrow_two s.start_bar s.end_bar bars.0.1 bars.1.0.1
 
-narrow_triple : (t : Triple) (u : Val) → shadow ((triples.the_field).row.own_val ((triples.the_field).into t) (u ∷ [])) → wide_two t.first t.last ≡ false
+narrow_triple : (t : Triple) (u : Val) → shadow ((triples.the_row).own_val t (u ∷ [])) → wide_two t.first t.last ≡ false
 narrow_triple t u o = let a = o.1.1 in narrow_two t.first t.last a.1.0.1 a.1.1.0.1
 
 -- a test that no element of an array passes that one owns
 none_owned :
-    {X D : Type 0} (into : X → D) (own : D → List Val → Fml) (p : X → Bool) → ((x : X) (u : Val) → shadow (own (into x) (u ∷ [])) → p x ≡ false)
-    → (n : ℕ) (xs : List X) (us : List Val) → shadow (each D own (map into xs) us) → any p (take n xs) ≡ false
-none_owned into own p h zero xs us o = refl
-none_owned into own p h (suc n) [] us o = refl
-none_owned into own p h (suc n) (x ∷ xs) [] o = absurd o
-none_owned into own p h (suc n) (x ∷ xs) (u ∷ us) o = or_i _ _ (h x u o.0) (none_owned into own p h n xs us o.1)
+    {X : Type 0} (own : X → List Val → Fml) (p : X → Bool) → ((x : X) (u : Val) → shadow (own x (u ∷ [])) → p x ≡ false)
+    → (n : ℕ) (xs : List X) (us : List Val) → shadow (each X own xs us) → any p (take n xs) ≡ false
+none_owned own p h zero xs us o = refl
+none_owned own p h (suc n) [] us o = refl
+none_owned own p h (suc n) (x ∷ xs) [] o = absurd o
+none_owned own p h (suc n) (x ∷ xs) (u ∷ us) o = or_i _ _ (h x u o.0) (none_owned own p h n xs us o.1)
 
 -- those of an array of strokes or of triples
 narrow_strokes :
-    (n : ℕ) (xs : List Stroke) (us : List Val) → shadow ((array_field strokes.the_field 512).row.own_val ((array_field strokes.the_field 512).into xs) us)
+    (n : ℕ) (xs : List Stroke) (us : List Val) → shadow ((Array strokes.the_row tt 512).own_val xs us)
     → any (λ (s : Stroke). wide_two s.start_bar s.end_bar) (take n xs) ≡ false
-narrow_strokes n xs us o = none_owned (strokes.the_field).into (strokes.the_field).row.own_val _ narrow_stroke n xs o.0 o.1.1
+narrow_strokes n xs us o = none_owned (strokes.the_row).own_val _ narrow_stroke n xs o.0 o.1.1
 
 narrow_triples :
-    (n : ℕ) (xs : List Triple) (us : List Val) → shadow ((array_field triples.the_field 256).row.own_val ((array_field triples.the_field 256).into xs) us)
+    (n : ℕ) (xs : List Triple) (us : List Val) → shadow ((Array triples.the_row tt 256).own_val xs us)
     → any (λ (t : Triple). wide_two t.first t.last) (take n xs) ≡ false
-narrow_triples n xs us o = none_owned (triples.the_field).into (triples.the_field).row.own_val _ narrow_triple n xs o.0 o.1.1
+narrow_triples n xs us o = none_owned (triples.the_row).own_val _ narrow_triple n xs o.0 o.1.1
 
 -- those of a chart
 pub narrow_levels : (c : Chart) (us : List Val) → shadow ((charts.the_field).row.own_val ((charts.the_field).into c) us) → any_level wide (levels_of c) ≡ false
