@@ -31,5 +31,5 @@ returns c =
     let q : Quotes = record { highs = c.args.highs.now; lows = c.args.lows.now } in
     let good = slices-by q c.if-highs-lows.false false c.if-highs-gt65536.false-raw in
     let whole =
-    answer-given q c.args.bytes.now good _ _ _ c.scan-r.ensures (omega (arith, c.if-r-gt0.false)) _ c.fill_bars.ensures in
+    answer-given q c.args.bytes.now good _ _ _ c.scan-r.ensures (omega arith) _ c.fill_bars.ensures in
     record { bars_value = whole.0; lows_after = whole.1 }

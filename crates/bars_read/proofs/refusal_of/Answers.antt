@@ -1,19 +1,20 @@
 -- `bars_read::refusal_of` meets its contract. Assumes nothing.
+use Rattle.std.proofs.Common.{arith}
 use Rattle.rules.specs.Refusals.{refuse}
 use Rattle.bars_read.proofs.refusal_of.Goals as goal
 
 pub returns-then-misnumbered : goal.returns-then-misnumbered
 unfolding refuse
-returns-then-misnumbered c = simp c.if-misnumbered.true
+returns-then-misnumbered c = grind arith
 
 pub returns-then-full : goal.returns-then-full
 unfolding refuse
-returns-then-full c = simp (c.if-misnumbered.false, c.if-full.true)
+returns-then-full c = grind arith
 
 pub returns-then-wrong : goal.returns-then-wrong
 unfolding refuse
-returns-then-wrong c = simp (c.if-misnumbered.false, c.if-full.false, c.if-wrong.true)
+returns-then-wrong c = grind arith
 
 pub returns : goal.returns
 unfolding refuse
-returns c = simp (c.if-misnumbered.false, c.if-full.false, c.if-wrong.false)
+returns c = grind arith

@@ -23,6 +23,6 @@ pub returns : goal.returns
 returns c =
     told-entry c.args.log.now c.args.at c.args.bars c.requires.0 _ c.width_of-width.ensures _ c.entry_in-entry.ensures _
     c.counted-with_it.ensures
-    (omega (arith, c.if-log-fields.false))
-    (omega (arith, c.if-next-gt65536.false))
-    (omega (arith, c.if-with_it-gt2048.false))
+    (omega arith)
+    (omega arith)
+    (omega arith)

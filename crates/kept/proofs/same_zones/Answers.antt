@@ -20,10 +20,10 @@ inside : (c : In-loop-i) → c.loop-i.i < c.args.n
 inside c = omega (arith, c.loop-i-test.true)
 
 below : (c : In-loop-i) → c.loop-i.i < c.args.m
-below c = omega (arith, inside c, c.if-n-m.false)
+below c = omega (arith, inside c)
 
 pub returns-then-n-m : goal.returns-then-n-m
-returns-then-n-m c = other-count _ _ _ _ (left_long c.before) (right_long c.before) (λ e. absurd (omega (arith, e, c.if-n-m.true)))
+returns-then-n-m c = other-count _ _ _ _ (left_long c.before) (right_long c.before) (λ e. absurd (omega (arith, e)))
 
 pub loop-i-init : goal.loop-i-init
 loop-i-init c = (omega arith, refl)
@@ -47,4 +47,4 @@ loop-i-preserved c =
 pub returns : goal.returns
 returns c =
     let past : c.args.n ≤ c.loop-i.i = omega (arith, c.loop-i-test.false) in
-    sym (same_end _ _ _ _ (left_long c.before.before.before) (right_long c.before.before.before) c.loop-i.i past (omega (arith, past, c.if-n-m.false))) ∙ c.loop-i.invariant.1
+    sym (same_end _ _ _ _ (left_long c.before.before.before) (right_long c.before.before.before) c.loop-i.i past (omega (arith, past))) ∙ c.loop-i.invariant.1

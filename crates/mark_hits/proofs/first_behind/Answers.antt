@@ -14,7 +14,7 @@ returns-then-after-last c = record { upper_bound = omega arith; first_behind = �
 pub loop-k-init : goal.loop-k-init
 loop-k-init c =
     let args = c.args in
-    (c.requires.0, c.requires.1, λ l t h. none-later l args.last args.place args.after (omega (arith, c.if-after-last.false)) h)
+    (c.requires.0, c.requires.1, λ l t h. none-later l args.last args.place args.after (omega arith) h)
 
 pub loop-k-preserved-in_default : goal.loop-k-preserved-in_default
 loop-k-preserved-in_default c =

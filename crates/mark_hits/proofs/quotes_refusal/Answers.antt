@@ -14,8 +14,8 @@ returns-then-highs-gt65536 c = refuse-long _ _ 0 c.if-highs-lows.false (omega (a
 
 pub returns-then-not-both_prices : goal.returns-then-not-both_prices
 returns-then-not-both_prices c =
-    refuse-prices _ _ 0 c.if-highs-lows.false (omega (arith, c.if-highs-gt65536.false)) (sym c.both_prices.ensures ∙ not-true _ c.if-not-both_prices.true-raw)
+    refuse-prices _ _ 0 c.if-highs-lows.false (omega arith) (sym c.both_prices.ensures ∙ not-true _ c.if-not-both_prices.true-raw)
 
 pub returns : goal.returns
 returns c =
-    refuse-none _ _ 0 c.if-highs-lows.false (omega (arith, c.if-highs-gt65536.false)) (sym c.both_prices.ensures ∙ not-false _ c.if-not-both_prices.false-raw)
+    refuse-none _ _ 0 c.if-highs-lows.false (omega arith) (sym c.both_prices.ensures ∙ not-false _ c.if-not-both_prices.false-raw)

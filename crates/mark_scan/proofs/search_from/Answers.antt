@@ -12,9 +12,6 @@ returns-then-at-eq0 c = inl refl
 pub returns-then-zb-i : goal.returns-then-zb-i
 returns-then-zb-i c = inl refl
 
-pub returns-then-zb-at : goal.returns-then-zb-at
-returns-then-zb-at c = inl refl
-
 pub returns-then-from-first : goal.returns-then-from-first
 returns-then-from-first c = inl refl
 
@@ -23,7 +20,7 @@ returns-else-from-first c =
     inr (record {
       not_first = omega (arith, c.if-at-eq0.false);
       same = c.if-zb-i.false;
-      later = c.if-zb-at.false;
+      later = omega arith;
       start = ap (λ (s : Scan). s.from) c.scan_at-from.ensures;
       inside = c.if-from-first.false;
     })

@@ -1,4 +1,7 @@
 -- `tables::range_at` meets its contract. Assumes nothing.
+use native.Mathlib.Omega.{arith}
+use mathlib.Core.List.{[]}
+use lib.ListN.{get_or}
 use borrow.Author.Rules.{rules}
 use borrow.Author.Tests.{eq-eqb, ne_eqb}
 use Rattle.tables.specs.Tables.{range_in}
@@ -12,4 +15,4 @@ pub returns : goal.returns
 unfolding range_in
 returns c =
     let low = c in
-    rw (ne_eqb _ 0 low.if-bars-k-eq0.false, low.bar_of.ensures, c.bar_of-2.ensures)
+    rw (ne_eqb (get_or (get_or c.args.bars.now c.args.k []) 1 0) 0 (omega arith), low.bar_of.ensures, c.bar_of-2.ensures)

@@ -77,8 +77,8 @@ returns-then-count-gt256 c =
 pub returns : goal.returns
 returns c =
     let fits = counted _ (good c.before.before.before.before.before.before.before.before.before.before) in
-    let own = (zones c.before).few c.if-count-gt256.false in record { number_value = number-few _ _ (good c.before.before.before.before.before.before.before.before.before.before) c.if-own-ne0.false _ _ _ (zones c.before) c.if-count-gt256.false; tables = λ _. record {
-          fits = record { bigs = fits.bigs; superiors = fits.superiors; zones = c.if-count-gt256.false };
+    let own = (zones c.before).few (omega arith) in record { number_value = number-few _ _ (good c.before.before.before.before.before.before.before.before.before.before) c.if-own-ne0.false _ _ _ (zones c.before) (omega arith); tables = λ _. record {
+          fits = record { bigs = fits.bigs; superiors = fits.superiors; zones = omega arith };
           bigs = bigs c.before.before.before.before.before.before.before.before.before.before;
           superiors = superiors c.before.before.before.before;
           zones = own;
