@@ -1,4 +1,3 @@
 // Laws about the definitions of `rules`, in proofs/. There is no code here.
 
 #![tactic(auto)]
-

@@ -3,14 +3,13 @@ use Prim.Native.Nat.{ℕ}
 use mathlib.Core.Path.{◌≡◌, refl}
 use mathlib.Core.List.{List, [], ◌∷◌}
 use Rattle.chart.specs.declared.Stroke.{Stroke}
-use Rattle.chart.specs.declared.Triple.{Triple}
 use Rattle.chart.specs.declared.Range.{Range}
 use Rattle.rules.specs.Answer.{Answer, given}
 use Rattle.rules.specs.Records.{Levels}
 use Rattle.rules.specs.Zones.{overlap_zones}
 use Rattle.rules.specs.Calls.{range_call}
 use Rattle.rules.proofs.Computing.{everything}
-use Rattle.rules.proofs.Charts.{Turn, turn, triple, stroke, strokes_of, levels, levelled, over_bigs, charted, keeping, found, zone}
+use Rattle.rules.proofs.Charts.{turn, triple, stroke, strokes_of, levels, levelled, over_bigs, charted, found, zone}
 use Rattle.rules.proofs.ChartK.{K, zone_k}
 use Rattle.rules.proofs.LiveFacts.{on}
 

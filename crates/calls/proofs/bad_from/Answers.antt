@@ -4,7 +4,6 @@ use mathlib.Core.Option.{Option}
 use Rattle.chart.specs.declared.Triple.{Triple}
 use Rattle.rules.specs.Refusals.{bad_triple}
 use Rattle.calls.proofs.Single.{triple-first, behind-none, behind-one}
-use borrow.Author.Rules.{rules}
 use Rattle.calls.proofs.bad_from.Goals as goal
 
 pub returns-then-n-eq0 : goal.returns-then-n-eq0

@@ -1,11 +1,10 @@
 -- `calls::broken_strokes` meets its contract. The invariant: what is left, behind p, has the whole level's answer. Assumes nothing.
-use Prim.Native.Nat.{◌≤◌, ◌<◌, ◌-◌}
+use Prim.Native.Nat.{◌≤◌, ◌<◌}
 use native.Mathlib.Omega.{arith}
 use mathlib.Core.Path.{◌≡◌, sym, ◌∙◌}
-use mathlib.Core.Option.{none, some}
-use lib.ListN.{length, take, drop}
+use mathlib.Core.Option.{none}
+use lib.ListN.{length}
 use Rattle.rules.specs.Records.{levels_of}
-use Rattle.rules.specs.Refusals.{broken_strokes}
 use Rattle.laws.proofs.Arrays.{length_via}
 use Rattle.levels.proofs.Read.{no_stroke}
 use Rattle.calls.proofs.Single.{join_first}

@@ -1,15 +1,9 @@
-use Prim.Native.Nat.{◌≤◌, ◌<◌, ◌-◌}
-use native.Mathlib.Omega.{arith}
-use mathlib.Core.Path.{◌≡◌, sym, ◌∙◌}
+use Prim.Native.Nat.{◌≤◌, ◌-◌}
+use mathlib.Core.Path.{◌≡◌}
 use mathlib.Core.Option.{none, some}
-use lib.ListN.{length, take, drop}
+use lib.ListN.{take, drop}
 use Rattle.rules.specs.Records.{levels_of}
 use Rattle.rules.specs.Refusals.{broken_strokes}
-use Rattle.laws.proofs.Arrays.{length_via}
-use Rattle.levels.proofs.Read.{no_stroke}
-use Rattle.calls.proofs.Single.{join_first}
-use Rattle.calls.proofs.Broken.{each-stroke, each_none, each_first, each-second, each-later}
-use borrow.Author.Rules.{rules}
 use Rattle.calls.proofs.broken_strokes.Given as goal
 
 abbrev pub invariant-loop-i : goal.invariant-loop-i

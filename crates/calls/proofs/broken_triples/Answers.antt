@@ -1,15 +1,13 @@
 -- `calls::broken_triples` meets its contract. The invariant: what is left, behind p, has the whole level's answer. Assumes nothing.
-use Prim.Native.Nat.{◌≤◌, ◌<◌, ◌-◌}
+use Prim.Native.Nat.{◌≤◌, ◌<◌}
 use native.Mathlib.Omega.{arith}
-use mathlib.Core.Path.{◌≡◌, sym, ◌∙◌}
-use mathlib.Core.Option.{none, some}
-use lib.ListN.{length, take, drop}
+use mathlib.Core.Path.{sym, ◌∙◌}
+use mathlib.Core.Option.{none}
+use lib.ListN.{length}
 use borrow.Author.Tests.{lt-ltb, le-ltb, le-leb, lt-leb}
-use Rattle.rules.specs.Refusals.{broken_triples}
 use Rattle.levels.proofs.Read.{no_triple}
 use Rattle.calls.proofs.Single.{triple-first}
 use Rattle.calls.proofs.Broken.{each-triple, each_none, each_first, each-second, each-later}
-use borrow.Author.Rules.{rules}
 use Rattle.calls.proofs.broken_triples.Goals.{At-loop-k, Else-n-eq0, In-loop-k, Start}
 use Rattle.calls.proofs.broken_triples.Goals as goal
 

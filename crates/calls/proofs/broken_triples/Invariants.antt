@@ -1,14 +1,8 @@
-use Prim.Native.Nat.{◌≤◌, ◌<◌, ◌-◌}
-use native.Mathlib.Omega.{arith}
-use mathlib.Core.Path.{◌≡◌, sym, ◌∙◌}
+use Prim.Native.Nat.{◌≤◌, ◌-◌}
+use mathlib.Core.Path.{◌≡◌}
 use mathlib.Core.Option.{none, some}
-use lib.ListN.{length, take, drop}
-use borrow.Author.Tests.{lt-ltb, le-ltb, le-leb, lt-leb}
+use lib.ListN.{take, drop}
 use Rattle.rules.specs.Refusals.{broken_triples}
-use Rattle.levels.proofs.Read.{no_triple}
-use Rattle.calls.proofs.Single.{triple-first}
-use Rattle.calls.proofs.Broken.{each-triple, each_none, each_first, each-second, each-later}
-use borrow.Author.Rules.{rules}
 use Rattle.calls.proofs.broken_triples.Given as goal
 
 abbrev pub invariant-loop-k : goal.invariant-loop-k

@@ -7,7 +7,6 @@ use borrow.Author.Tests.{le-leb, lt-leb}
 use Rattle.levels.proofs.Read.{no_triple}
 use Rattle.calls.proofs.Last.{last_none, last_taken}
 use Rattle.calls.proofs.Chain.{refuse_here, refuse-later, lengthen_none, lengthen_some}
-use borrow.Author.Rules.{rules}
 use Rattle.calls.proofs.lengthen_refusal.Goals.{Start}
 use Rattle.calls.proofs.lengthen_refusal.Goals as goal
 

@@ -4,7 +4,6 @@ use native.Mathlib.Omega.{arith}
 use mathlib.Core.Path.{◌∙◌}
 use lib.ListN.{length}
 use Rattle.calls.proofs.Chain.{triple-number}
-use borrow.Author.Rules.{rules}
 use Rattle.calls.proofs.triple_refusal.Goals.{Start}
 use Rattle.calls.proofs.triple_refusal.Goals as goal
 

@@ -7,7 +7,6 @@ use borrow.Author.Tests.{eq-eqb, ne_eqb}
 use Rattle.levels.proofs.Read.{no_triple}
 use Rattle.calls.proofs.Last.{last_none, last_taken}
 use Rattle.calls.proofs.Chain.{refuse_here, refuse-later, held_none, held_by, held-not}
-use borrow.Author.Rules.{rules}
 use Rattle.calls.proofs.under_refusal.Goals.{Start}
 use Rattle.calls.proofs.under_refusal.Goals as goal
 

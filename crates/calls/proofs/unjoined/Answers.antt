@@ -1,6 +1,5 @@
 -- `calls::unjoined` meets its contract. Assumes nothing.
 use Rattle.calls.proofs.Single.{join-tests}
-use borrow.Author.Rules.{rules}
 use Rattle.calls.proofs.unjoined.Goals as goal
 
 pub returns : goal.returns

@@ -4,7 +4,6 @@ use mathlib.Core.Option.{Option}
 use Rattle.chart.specs.declared.Stroke.{Stroke}
 use Rattle.rules.specs.Refusals.{unjoined}
 use Rattle.calls.proofs.Single.{join_first, behind-none, behind-one}
-use borrow.Author.Rules.{rules}
 use Rattle.calls.proofs.unjoined_from.Goals as goal
 
 pub returns-then-n-eq0 : goal.returns-then-n-eq0

@@ -1,7 +1,6 @@
 -- `fields::price_at` meets its contract. Assumes nothing.
 use mathlib.Core.Path.{ap, ◌∙◌}
 use lib.Ieee.{binary64, of_bits}
-use borrow.Author.Rules.{rules}
 use Rattle.rules.specs.File.{number, price}
 use Rattle.laws.proofs.FileCode.{part}
 use Rattle.fields.proofs.price_at.Goals as goal

@@ -1,5 +1,4 @@
 -- `fields::price_bytes` meets its contract. Assumes nothing.
-use borrow.Author.Rules.{rules}
 use Rattle.fields.proofs.price_bytes.Goals as goal
 
 pub returns : goal.returns

@@ -1,6 +1,5 @@
 -- `fields::stroke_in` meets its contract. Assumes nothing.
 use mathlib.Core.Path.{sym}
-use borrow.Author.Rules.{rules}
 use Rattle.laws.proofs.FileCode.{stroke-read}
 use Rattle.fields.proofs.stroke_in.Goals as goal
 

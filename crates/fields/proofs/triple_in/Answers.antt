@@ -1,6 +1,5 @@
 -- `fields::triple_in` meets its contract. Assumes nothing.
 use native.Mathlib.Omega.{arith}
-use borrow.Author.Rules.{rules}
 use Rattle.rules.specs.File.{triple_in}
 use Rattle.laws.proofs.FileCode.{one_at}
 use Rattle.fields.proofs.triple_in.Goals as goal

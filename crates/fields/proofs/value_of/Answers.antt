@@ -2,7 +2,6 @@
 use native.Mathlib.Omega.{arith}
 use mathlib.Core.Path.{sym}
 use lib.Ieee.{div, of_bits}
-use borrow.Author.Rules.{rules}
 use Rattle.fields.proofs.NanBits.{nan_bits_lem, bits_no_nan}
 use Rattle.fields.proofs.value_of.Goals as goal
 

@@ -1,12 +1,10 @@
 -- `levels::bad_chart` meets its contract. The invariants: what is left of the strokes has the chart's answer; in the first loop, where those so far
 -- passed. Assumes nothing.
-use Prim.Native.Nat.{◌≤◌, ◌<◌, ◌-◌}
+use Prim.Native.Nat.{◌≤◌, ◌<◌}
 use native.Mathlib.Omega.{arith}
 use mathlib.Core.Path.{◌≡◌, sym, ◌∙◌}
-use mathlib.Core.Bool.{true}
-use lib.ListN.{length, take, drop}
-use Rattle.rules.specs.Lists.{any}
-use Rattle.rules.specs.Refusals.{wrong_stroke, bad_chart}
+use lib.ListN.{length}
+use Rattle.rules.specs.Refusals.{wrong_stroke}
 use Rattle.laws.proofs.Arrays.{length_via}
 use Rattle.laws.proofs.Answers.{Counted}
 use Rattle.levels.proofs.Tests.{both, any_here, any-later, any_none, counts-fit, bad-counts, bad-segments, bad-bigs, bad-superiors, bad-strokes}

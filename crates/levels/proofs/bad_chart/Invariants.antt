@@ -1,15 +1,9 @@
-use Prim.Native.Nat.{◌≤◌, ◌<◌, ◌-◌}
-use native.Mathlib.Omega.{arith}
-use mathlib.Core.Path.{◌≡◌, sym, ◌∙◌}
+use Prim.Native.Nat.{◌≤◌, ◌-◌}
+use mathlib.Core.Path.{◌≡◌}
 use mathlib.Core.Bool.{true}
-use lib.ListN.{length, take, drop}
+use lib.ListN.{take, drop}
 use Rattle.rules.specs.Lists.{any}
 use Rattle.rules.specs.Refusals.{wrong_stroke, bad_chart}
-use Rattle.laws.proofs.Arrays.{length_via}
-use Rattle.laws.proofs.Answers.{Counted}
-use Rattle.levels.proofs.Tests.{both, any_here, any-later, any_none, counts-fit, bad-counts, bad-segments, bad-bigs, bad-superiors, bad-strokes}
-use Rattle.levels.proofs.Read.{no_stroke}
-use borrow.Author.Rules.{rules}
 use Rattle.levels.proofs.bad_chart.Given as goal
 
 abbrev pub invariant-loop-k : goal.invariant-loop-k

@@ -1,5 +1,4 @@
 -- `levels::plain_prices` meets its contract. Assumes nothing.
-use borrow.Author.Rules.{rules}
 use Rattle.levels.proofs.Tests.{plain_prices}
 use Rattle.levels.proofs.plain_prices.Goals as goal
 

@@ -1,5 +1,4 @@
 -- `levels::plain_stroke` meets its contract. Assumes nothing.
-use borrow.Author.Rules.{rules}
 use Rattle.levels.proofs.Tests.{right_by_test}
 use Rattle.levels.proofs.plain_stroke.Goals as goal
 

@@ -3,7 +3,6 @@ use Prim.Native.Nat.{◌<◌}
 use native.Mathlib.Omega.{arith}
 use mathlib.Core.Path.{◌∙◌}
 use borrow.Author.Tests.{lt-ltb, le-ltb, le-leb, lt-leb}
-use borrow.Author.Rules.{rules}
 use Rattle.rules.specs.Ranges.{spanned}
 use Rattle.levels.specs.Read.{stroke_if, range_from}
 use Rattle.levels.proofs.Read.{no_end}

@@ -1,6 +1,5 @@
 -- `levels::resolve_bigseg_range` meets its contract. Assumes nothing.
 use mathlib.Core.Path.{ap, sym, ◌∙◌}
-use borrow.Author.Rules.{rules}
 use Rattle.rules.specs.Answer.{range_answer, given}
 use Rattle.rules.specs.Calls.{range_call}
 use Rattle.laws.proofs.Answers.{counted, on-bad, on-good}

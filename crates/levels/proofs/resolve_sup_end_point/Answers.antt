@@ -1,6 +1,5 @@
 -- `levels::resolve_sup_end_point` meets its contract. Assumes nothing.
 use mathlib.Core.Path.{ap, sym, ◌∙◌}
-use borrow.Author.Rules.{rules}
 use Rattle.rules.specs.Answer.{end_point_answer, given}
 use Rattle.rules.specs.Calls.{end_point_call}
 use Rattle.laws.proofs.Answers.{counted, on-bad, on-good}

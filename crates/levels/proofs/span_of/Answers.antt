@@ -1,6 +1,5 @@
 -- `levels::span_of` meets its contract. Assumes nothing.
 use Rattle.rules.specs.Ranges.{spanned}
-use borrow.Author.Rules.{rules}
 use Rattle.levels.proofs.span_of.Goals as goal
 
 pub returns : goal.returns

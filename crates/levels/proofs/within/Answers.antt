@@ -1,7 +1,6 @@
 -- `levels::within` meets its contract. Assumes nothing.
 use native.Mathlib.Nat.{mod-lt, mod-eq_of_lt, mod-le}
 use native.Mathlib.Omega.{arith}
-use borrow.Author.Rules.{rules}
 use Rattle.levels.proofs.within.Goals as goal
 
 pub overflow_cast-result : goal.overflow_cast-result

@@ -1,5 +1,4 @@
 -- `levels::wrong_stroke` meets its contract. Assumes nothing.
-use borrow.Author.Rules.{rules}
 use Rattle.rules.specs.Refusals.{bad_prices, wrong_stroke}
 use Rattle.levels.proofs.wrong_stroke.Goals as goal
 

@@ -1,12 +1,9 @@
 -- `levels::wrong_triples` meets its contract. The invariant: whether a wrong one was met or is among those that are left is the whole level's
 -- answer. Assumes nothing.
-use Prim.Native.Nat.{◌≤◌, ◌-◌}
+use Prim.Native.Nat.{◌≤◌}
 use native.Mathlib.Omega.{arith}
-use mathlib.Core.Path.{◌≡◌, refl}
-use mathlib.Core.Bool.{◌||◌}
-use lib.ListN.{length, take, drop}
-use borrow.Author.Rules.{rules}
-use Rattle.rules.specs.Lists.{any}
+use mathlib.Core.Path.{refl}
+use lib.ListN.{length}
 use Rattle.rules.specs.Refusals.{wrong_triple}
 use Rattle.levels.proofs.Read.{no_triple}
 use Rattle.levels.proofs.Tests.{met-none, met-more}

@@ -1,13 +1,9 @@
 use Prim.Native.Nat.{◌≤◌, ◌-◌}
-use native.Mathlib.Omega.{arith}
-use mathlib.Core.Path.{◌≡◌, refl}
+use mathlib.Core.Path.{◌≡◌}
 use mathlib.Core.Bool.{◌||◌}
-use lib.ListN.{length, take, drop}
-use borrow.Author.Rules.{rules}
+use lib.ListN.{take, drop}
 use Rattle.rules.specs.Lists.{any}
 use Rattle.rules.specs.Refusals.{wrong_triple}
-use Rattle.levels.proofs.Read.{no_triple}
-use Rattle.levels.proofs.Tests.{met-none, met-more}
 use Rattle.levels.proofs.wrong_triples.Given as goal
 
 abbrev pub invariant-loop-i : goal.invariant-loop-i

@@ -1,7 +1,6 @@
 -- `price::all_prices` meets its contract. Assumes nothing.
 use mathlib.Core.Path.{◌∙◌}
 use mathlib.Core.Bool.{and_self}
-use borrow.Author.Rules.{rules}
 use Rattle.price.proofs.all_prices.Goals as goal
 
 pub returns : goal.returns

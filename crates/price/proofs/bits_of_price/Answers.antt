@@ -1,5 +1,4 @@
 -- `price::bits_of_price` meets its contract: a price is no NaN. Assumes nothing.
-use borrow.Author.Rules.{rules}
 use Rattle.price.proofs.Order.{price_no_nan}
 use Rattle.price.proofs.bits_of_price.Goals as goal
 

@@ -1,5 +1,4 @@
 -- `price::both_prices` meets its contract. Assumes nothing.
-use borrow.Author.Rules.{rules}
 use Rattle.price.proofs.both_prices.Goals as goal
 
 pub returns-then-plain_products : goal.returns-then-plain_products

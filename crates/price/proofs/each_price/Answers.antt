@@ -1,11 +1,9 @@
 -- `price::each_price` meets its contract. The invariant: what is left of the list has the whole list's answer. Assumes nothing.
-use mathlib.Core.Path.{◌≡◌, sym, ◌∙◌}
-use Prim.Native.Nat.{◌≤◌, ◌<◌, ◌-◌}
+use mathlib.Core.Path.{sym, ◌∙◌}
+use Prim.Native.Nat.{◌≤◌, ◌<◌}
 use native.Mathlib.Omega.{arith}
-use lib.ListN.{length, drop}
+use lib.ListN.{length}
 use borrow.Author.Tests.{not-true, not-false}
-use borrow.Author.Rules.{rules}
-use Rattle.price.specs.Price.{all_prices}
 use Rattle.price.proofs.Lists.{all-step, all_end}
 use Rattle.price.proofs.each_price.Goals as goal
 

@@ -1,11 +1,7 @@
-use mathlib.Core.Path.{◌≡◌, sym, ◌∙◌}
-use Prim.Native.Nat.{◌≤◌, ◌<◌, ◌-◌}
-use native.Mathlib.Omega.{arith}
+use mathlib.Core.Path.{◌≡◌}
+use Prim.Native.Nat.{◌≤◌, ◌-◌}
 use lib.ListN.{length, drop}
-use borrow.Author.Tests.{not-true, not-false}
-use borrow.Author.Rules.{rules}
 use Rattle.price.specs.Price.{all_prices}
-use Rattle.price.proofs.Lists.{all-step, all_end}
 use Rattle.price.proofs.each_price.Given as goal
 
 abbrev pub invariant-loop-i : goal.invariant-loop-i

@@ -1,7 +1,6 @@
 -- `price::number_of` meets its contract. Assumes nothing.
 use native.Mathlib.Omega.{arith}
 use lib.ListN.{drop}
-use borrow.Author.Rules.{rules}
 use Rattle.price.proofs.Bytes.{four_bytes, no_bytes}
 use Rattle.price.proofs.number_of.Goals as goal
 

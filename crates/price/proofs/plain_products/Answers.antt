@@ -1,16 +1,9 @@
 -- `price::plain_products` meets its contract. The invariant, of each slice: where all so far passed and what is left are prices, all are.
 -- Assumes nothing.
-use mathlib.Core.Path.{◌≡◌}
-use mathlib.Core.List.{List}
-use mathlib.Core.Bool.{Bool, true}
-use Prim.Native.Nat.{ℕ, ◌≤◌, ◌<◌, ◌-◌}
+use Prim.Native.Nat.{◌≤◌, ◌<◌}
 use native.Mathlib.Omega.{arith}
-use lib.ListN.{length, drop}
-use lib.Ieee.{Float}
-use borrow.Author.Rules.{rules}
-use Rattle.price.specs.Price.{all_prices}
+use lib.ListN.{length}
 use Rattle.price.proofs.Lists.{passed_step, all_end}
-use Rattle.price.proofs.plain_products.Invariants.{Passed}
 use Rattle.price.proofs.plain_products.Goals as goal
 
 pub loop-i-init : goal.loop-i-init

@@ -1,13 +1,10 @@
 use mathlib.Core.Path.{◌≡◌}
 use mathlib.Core.List.{List}
 use mathlib.Core.Bool.{Bool, true}
-use Prim.Native.Nat.{ℕ, ◌≤◌, ◌<◌, ◌-◌}
-use native.Mathlib.Omega.{arith}
+use Prim.Native.Nat.{ℕ, ◌≤◌, ◌-◌}
 use lib.ListN.{length, drop}
 use lib.Ieee.{Float}
-use borrow.Author.Rules.{rules}
 use Rattle.price.specs.Price.{all_prices}
-use Rattle.price.proofs.Lists.{passed_step, all_end}
 use Rattle.price.proofs.plain_products.Given as goal
 
 abbrev pub Passed : List Float → Bool → ℕ → Type 0

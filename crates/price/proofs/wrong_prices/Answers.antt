@@ -1,6 +1,5 @@
 -- `price::wrong_prices` meets its contract. Assumes nothing.
 use mathlib.Core.Path.{sym, ◌∙◌}
-use borrow.Author.Rules.{rules}
 use Rattle.price.proofs.wrong_prices.Goals as goal
 
 pub returns-then-is_price : goal.returns-then-is_price

@@ -1,6 +1,5 @@
 -- `third::row_of` meets its contract. Assumes nothing.
 use mathlib.Core.Path.{refl}
-use borrow.Author.Rules.{rules}
 use Rattle.third.proofs.row_of.Goals as goal
 
 pub returns : goal.returns

@@ -1,12 +1,7 @@
 -- `third::rows_of` meets its contract. The invariant: the first i rows are the first i marks. Assumes nothing.
-use Prim.Native.Nat.{◌-◌, ◌≤◌}
 use native.Mathlib.Omega.{arith}
-use mathlib.Core.Path.{◌≡◌, refl}
-use mathlib.Core.List.{List}
-use lib.ListN.{length, take, length-set}
-use borrow.Author.Rules.{rules}
-use Rattle.chart.specs.declared.ThirdMark.{ThirdMark}
-use Rattle.mark_thirds.specs.Third.{Marked}
+use mathlib.Core.Path.{refl}
+use lib.ListN.{length-set}
 use Rattle.third.proofs.Rows.{given-next, given-all}
 use Rattle.third.proofs.rows_of.Goals as goal
 
