@@ -132,7 +132,7 @@ pub fn bar_of(beyond: bool, end_bar: u16, start_bar: u16) -> u16
 }
 
 // From the start of one stroke to the end of another.
-fn span_of(s: Stroke, e: Stroke) -> Range
+pub fn span_of(s: Stroke, e: Stroke) -> Range
     ensures { result ≡ spanned (some s) (some e) }
 {
     Range::Found(Span {

@@ -2,12 +2,12 @@
 use Prim.Native.Nat.{ℕ, ◌+◌, ◌≤◌, ◌<◌}
 use native.Mathlib.Omega.{arith}
 use native.Mathlib.Numerals.{add-one}
-use mathlib.Core.Path.{◌≡◌, refl, sym, ap, ◌∙◌}
-use mathlib.Core.Bool.{true, false}
-use mathlib.Core.List.{List, [], ◌∷◌, map, map-id}
+use mathlib.Core.Path.{◌≡◌, refl, ap, ◌∙◌}
+use mathlib.Core.Bool.{Bool, true, false, ◌&&◌}
+use mathlib.Core.List.{List, [], ◌∷◌, map}
 use lib.ListN.{length, take, get_or, set}
 use lib.Seq.{take-suc, take-suc-set, length-take-le}
-use lib.Dec.{leb, ltb}
+use lib.Dec.{ltb}
 use lib.Ieee.{Float}
 use borrow.Author.Tests.{lt-ltb, le-ltb}
 use Rattle.chart.specs.declared.Stroke.{Stroke}
@@ -21,20 +21,28 @@ use Rattle.rules.specs.Ranges.{segment_range}
 use Rattle.rules.specs.Zones.{lower_zones_of}
 use Rattle.rules.specs.Refusals.{refuse, lower_refusal}
 use Rattle.laws.proofs.Lists.{map-append}
-use Rattle.levels.specs.Read.{SafeIndex}
+use Rattle.levels.specs.Read.{SafeIndex, stroke_if, range_from}
 use Rattle.levels.proofs.Read.{no_triple, no_stroke, held}
 use Rattle.tables.specs.Rows.{rowsIn}
 use Rattle.tables.specs.Tables.{EndsAt, Big, big_in, Ranged, ranged_in, ranged_of, Members, PutsBig, owner_in, Owners}
 use Rattle.tables.proofs.Rows.{rows-map}
-use Rattle.tables.proofs.Bigs.{spanned_ends}
+use Rattle.tables.proofs.Bigs.{range_ends}
 use Rattle.zones.specs.Filled.{Filled}
 use Rattle.lower_zones.specs.Read.{segment_from}
 
 -- ---- segments
 
+twice : (b : Bool) → (b && b) ≡ b
+twice true = refl
+twice false = refl
+
+-- the range of a segment is that of a big whose first and last segment it is
+as_big : (n : ℕ) (t : Triple) (s e : Stroke) → range_from n n t t t s e ≡ segment_from n t s e
+unfolding range_from stroke_if segment_from
+as_big n t s e = rw (twice (ltb t.first n), twice (ltb t.last n))
+
 pub segment_ends : (n : ℕ) (t : Triple) (s e : Stroke) → EndsAt (segment_from n t s e) e.end_price
-unfolding segment_from
-segment_ends n t s e = spanned_ends s e (leb t.first t.last) (ltb t.first n) (ltb t.last n)
+segment_ends n t s e = rw (as_big n t s e) at (range_ends n n t t t s e)
 
 -- the range of a segment whose strokes were read at p and q
 pub segment_read :

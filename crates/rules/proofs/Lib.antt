@@ -8,6 +8,7 @@ pub mod CallFacts
 pub mod FileFacts
 pub mod RollFacts
 pub mod ExtremeFacts
+pub mod LowerFacts
 pub mod BarsFacts
 pub mod Readings
 pub mod Borders

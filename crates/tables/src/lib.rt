@@ -1,9 +1,10 @@
-// Tables that stand for the bigs, superiors and zones of a chart. A table is an array of rows of numbers or of prices, which can be lent,
-// where an array of records would be copied for each use. A row has, of
-// - a big: direction, 1 where the range is there or else 0, its start and end bar, 1 where the end point is there or else 0, and its bar;
-//   its prices: the range's low and high, and the end point's price, by which the bars of low and high are known again
-// - a superior: direction, first, last, 1 where it has an end bar or else 0, and that
-// - a zone: superior, start and end bar, first member, members, bars of dd and gg, and a 0, so that a row has 16 bytes; its prices: zd, zg, dd,
+// Tables that stand for the segments, bigs, superiors and zones of a chart. A table is an array of rows of numbers or of prices, which can be
+// lent, where an array of records would be copied for each use. A row has, of
+// - a big, or a segment with no end point: direction, 1 where the range is there or else 0, its start and end bar, 1 where the end point is
+//   there or else 0, and its bar; its prices: the range's low and high, and the end point's price, by which the bars of low and high are known
+//   again
+// - a superior, or a big as an owner with no end bar: direction, first, last, 1 where it has an end bar or else 0, and that
+// - a zone: owner, start and end bar, first member, members, bars of dd and gg, and a 0, so that a row has 16 bytes; its prices: zd, zg, dd,
 //   gg.
 
 #![tactic(auto)]
@@ -96,8 +97,8 @@ fn has_end(b: Triple, z: Triple, segments: u16, strokes: u16) -> u16
     1
 }
 
-// A big into row k: its direction and range, which ends where stroke e does, and the end point at e where `there` is not 0.
-fn put_big(
+// A big, or a segment, into row k: its direction and range, which ends where stroke e does, and the end point at e where `there` is not 0.
+pub fn put_big(
     k: usize,
     direction: u8,
     range: Range,

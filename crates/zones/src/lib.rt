@@ -275,7 +275,7 @@ pub struct ZoneRows {
 }
 
 // A refusal, with no rows.
-fn refusal(number: u8) -> ZoneRows
+pub fn refusal(number: u8) -> ZoneRows
     requires { 0 < number }
     ensures { rows_answer result.number result.count result.rows ≡ refused number }
 {
@@ -287,7 +287,7 @@ fn refusal(number: u8) -> ZoneRows
 }
 
 // The first n rows of the tables as the answer of a call.
-fn rows_of(n: usize, zb: &[[u16; 8]; 256], zp: &[[f64; 4]; 256]) -> ZoneRows
+pub fn rows_of(n: usize, zb: &[[u16; 8]; 256], zp: &[[f64; 4]; 256]) -> ZoneRows
     requires { (n ≤ 256) × Wide zb.now zp.now }
     ensures { rows_answer result.number result.count result.rows ≡ given (zones_in n zb.now zp.now) }
 {
