@@ -5,8 +5,8 @@ root = os.path.join(os.path.dirname(os.path.abspath(__file__)), "..")
 NAMES = ["chart.dat", "bars.dat"]
 
 def program(name):
-    """a program of ours: from the folder that the environment's PROGRAMS names, if it is set, and from target/bin else"""
-    return os.path.join(os.path.abspath(os.environ.get("PROGRAMS", os.path.join(root, "target/bin"))), name)
+    """a program of ours: from the folder that the environment's PROGRAMS names, if it is set, and else where `rt run` in its crate leaves it"""
+    return os.path.join(os.path.abspath(os.environ.get("PROGRAMS", os.path.join(root, "crates", name, "out"))), name)
 
 def printed(command, data=b"", folder=None):
     """what a command prints; where it does not end within 20 seconds or ends otherwise than with 0, that too"""
@@ -22,7 +22,7 @@ def behind_lengths(files):
 
 def reference(pairs, sections):
     """for each of many pairs of files, what the reference gives in these sections, as oracle/main.rs prints them"""
-    command = [os.path.join(root, "target/oracle/oracle"), "many", *sections]
+    command = [os.path.join(root, "oracle/out/oracle"), "many", *sections]
     out = subprocess.run(command, input=behind_lengths(f for pair in pairs for f in pair), capture_output=True, check=True).stdout
     return re.split(rb"^CHART \d+\n", out, flags=re.M)[1:]
 

@@ -42,21 +42,21 @@ def get(l, i):
 LIBRARY = {
     "eqb": lambda a, b: a == b, "leb": lambda a, b: a <= b, "ltb": lambda a, b: a < b,
     "lt": lambda a, b: a.value() < b.value(), "le": lambda a, b: a.value() <= b.value(), "eq": lambda a, b: a.value() == b.value(),
-    "length": lambda l: len(l), "take": lambda n, l: l[:n], "drop": lambda n, l: l[n:], "getElem?": get,
-    "getD": lambda l, i, d: l[i] if i < len(l) else d, "replicate": lambda n, x: (x,) * n,
+    "length": lambda l: len(l), "take": lambda n, l: l[:n], "drop": lambda n, l: l[n:], "get_elem?": get,
+    "get_or": lambda l, i, d: l[i] if i < len(l) else d, "replicate": lambda n, x: (x,) * n,
     "set": lambda l, i, x: l[:i] + (x,) + l[i + 1:] if i < len(l) else l,
-    "map": lambda f, l: tuple(call(f, x) for x in l), "getLast?": lambda l: ("some", l[-1]) if l else ("none",), "dropLast": lambda l: l[:-1],
-    "not": lambda b: not b, "Bool·beq": lambda a, b: a == b, "min": lambda a, b: min(a, b), "suc": lambda n: n + 1, "some": lambda x: ("some", x),
-    "pos": lambda n: n, "ofInt": lambda f, n: F(struct.unpack("<Q", struct.pack("<d", float(n)))[0]), "ofBits": lambda f, n: of_bits(n),
-    "toBits": lambda f, x: x.bits, "inf": lambda s: F(INF.bits | s << 63), "code": lambda c: ord(c),
-    "isPrice": is_price, "allPrices": lambda l: all(map(is_price, l)), "lower": lambda a, b: b if b.value() < a.value() else a,
-    "higher": lambda a, b: b if a.value() < b.value() else a, "bytesOf": bytes_of, "ofBytes": lambda l: sum(b << 8 * i for i, b in enumerate(l)),
-    "priceBytes": lambda x: bytes_of(8, x.bits),
-    "pointOf": lambda o: ("At", o[1]["end_bar"], o[1]["end_price"]) if o[0] == "some" else ("Nowhere",),
+    "map": lambda f, l: tuple(call(f, x) for x in l), "get_last?": lambda l: ("some", l[-1]) if l else ("none",), "drop_last": lambda l: l[:-1],
+    "not": lambda b: not b, "beq": lambda a, b: a == b, "min": lambda a, b: min(a, b), "suc": lambda n: n + 1, "some": lambda x: ("some", x),
+    "pos": lambda n: n, "of_int": lambda f, n: F(struct.unpack("<Q", struct.pack("<d", float(n)))[0]), "of_bits": lambda f, n: of_bits(n),
+    "to_bits": lambda f, x: x.bits, "inf": lambda s: F(INF.bits | s << 63), "code": lambda c: ord(c),
+    "is_price": is_price, "all_prices": lambda l: all(map(is_price, l)), "lower": lambda a, b: b if b.value() < a.value() else a,
+    "higher": lambda a, b: b if a.value() < b.value() else a, "bytes_of": bytes_of, "of_bytes": lambda l: sum(b << 8 * i for i, b in enumerate(l)),
+    "price_bytes": lambda x: bytes_of(8, x.bits),
+    "point_of": lambda o: ("At", o[1]["end_bar"], o[1]["end_price"]) if o[0] == "some" else ("Nowhere",),
 }
 # constructors without and with arguments; those of `specs` are added when it is read
 PLAIN = {"none", "Missing", "Nowhere"}
-MAKERS = {"Found": 1, "At": 2, "ground.Zone": 1, "ground.Anchor": 1}
+MAKERS = {"Found": 1, "At": 2, "Ground.Zone": 1, "Ground.Anchor": 1}
 CONSTANTS = {"true": "True", "false": "False", "zero": "0", "nan": "NAN", "binary64": "0"}
 
 class Fn:
@@ -154,7 +154,7 @@ class Parser:
         if head == "cond" and "cond" not in self.locals:
             self.next()
             args = [self.atom() for _ in range(3)]
-            return self.fields(f"({args[1]} if {args[0]} else {args[2]})")
+            return f"({args[1]} if {args[0]} else {args[2]})"
         if head == "record":
             self.next()
             self.next("{")
@@ -166,26 +166,28 @@ class Parser:
                 if self.peek() == ";":
                     self.next()
             self.next("}")
-            return self.fields("{" + ", ".join(parts) + "}")
-        if head in ("text.[]",):
+            return "{" + ", ".join(parts) + "}"
+        if head == "text.[]":
             self.next()
             return '""'
         raw = None if head in "([{" or head[0] in '"0123456789' else head
-        if raw is not None and raw not in self.locals and raw not in CONSTANTS and raw not in PLAIN:
+        has_field = self.words[self.at + 1:self.at + 2] == ["."]
+        if raw is not None and not has_field and raw not in self.locals and raw not in CONSTANTS and raw not in PLAIN:
             self.next()
             first = None
         else:
             raw, first = None, self.atom()
-        while self.peek() not in STOP and self.peek() not in INFIX and self.peek() not in (".", "END", "{"):
+        while self.peek() not in STOP and self.peek() not in INFIX and self.peek() != "END":
             if self.peek() == "λ":
                 args.append(self.lam())
                 break
-            args.append(self.atom())
+            if self.peek() == "{":  # an implicit argument
+                self.at = self.words.index("}", self.at) + 1
+            else:
+                args.append(self.atom())
         if raw is None:
-            value = first if not args else f"call({first}, {', '.join(args)})"
-        else:
-            value = self.named(raw, args)
-        return self.fields(value)
+            return first if not args else f"call({first}, {', '.join(args)})"
+        return self.named(raw, args)
 
     def named(self, name, args):
         python, arity = self.lookup(name)
@@ -199,6 +201,8 @@ class Parser:
     def lookup(self, name):
         if name in self.scope:
             return self.scope[name]
+        if name not in MAKERS:
+            name = name.split(".")[-1]  # a constructor of a module by its alias
         if name in LIBRARY:
             return f"LIBRARY[{name!r}]", LIBRARY[name].__code__.co_argcount
         if name in MAKERS:
@@ -206,13 +210,15 @@ class Parser:
             return f"make({name!r})", n
         raise Unsupported("no " + name)
 
-    def fields(self, value):
-        while self.peek() == "." and self.at + 1 < len(self.words):
+    def atom(self):
+        """a word or a bracketed term, with its fields"""
+        value = self.bare()
+        while self.peek() == ".":
             self.next()
             value = f"{value}[{self.next().strip('«»')!r}]"
         return value
 
-    def atom(self):
+    def bare(self):
         w = self.next()
         if w == "(":
             value = self.term()
@@ -261,7 +267,7 @@ class Parser:
         chain = "stuck()"
         for test, body in reversed(arms):
             chain = f"({body} if {test} else {chain})"
-        return self.fields(f"(lambda e: {chain})({subject})")
+        return f"(lambda e: {chain})({subject})"
 
     def pattern(self, of, tests, binds, whole=True):
         """A pattern of the value `of`; where whole, up to ↦ (infix ∷ and a constructor with arguments may stand bare)."""
@@ -283,7 +289,7 @@ class Parser:
             self.pattern(f"({of} - 1)", tests, binds, False)
         elif w == "text.[]":
             tests.append(f'{of} == ""')
-        elif w == "text._∷_":
+        elif w == "text.◌∷◌":
             tests.append(f'{of} != ""')
             self.pattern(f"{of}[0]", tests, binds, False)
             self.pattern(f"{of}[1:]", tests, binds, False)
@@ -314,8 +320,20 @@ def stuck():
 def make(name):
     return lambda *a: (name,) + a
 
-def words_of(text):
-    return [w for w in TOKEN.findall(text) if not w.startswith("--")]
+def words_of(text, aliases={}):
+    """The words of a text: `of_ground.Zone` as `Ground.Zone`, by the file's aliases; of any other `z.span.low` the name, and each dot and field."""
+    found = []
+    for w in TOKEN.findall(text):
+        first, dot, rest = w.partition(".")
+        if w.startswith("--"):
+            continue
+        if not first or not rest or first == "text" or w[0] in '"«':
+            found.append(w)
+        elif first in aliases:
+            found.append(aliases[first] + "." + rest)
+        else:
+            found += re.split(r"(\.)", w)
+    return found
 
 def chunks(text):
     """Top-level pieces of a file, those of a `module _` block too."""
@@ -334,11 +352,14 @@ def chunks(text):
 class Module:
     """The definitions of one file: signatures, clauses by name, and the facts of its records."""
     def __init__(self, key, text):
-        self.key, self.clauses, self.uses, self.facts = key, {}, [], []
+        self.key, self.clauses, self.uses, self.facts, self.aliases = key, {}, [], [], {}
         terms = set()  # the names of the definitions that are no types and no proofs
         for piece in chunks(text):
             if piece.startswith("use "):
                 self.uses.append(" ".join(piece.split()))
+                alias = re.match(r"use (\S+) as (\w+)$", self.uses[-1])
+                if alias:
+                    self.aliases[alias.group(2)] = alias.group(1).removesuffix(".TheVariants").split(".")[-1]
             elif re.match(r"pub record (Facts|Runs|Numbers)\b", piece):
                 for m in re.finditer(r"\n  pub (\S+) :((?:.|\n)*?)(?=\n  pub |\Z)", piece):
                     self.facts.append((m.group(1), m.group(2)))
@@ -381,12 +402,13 @@ class World:
         for k, m in self.modules.items():
             scope = self.scopes[k]
             for use in m.uses:
-                g = re.match(r"use Rattle·rules·\w+\.(\w+)\.(\w+)\.\{(.*)\}", use)
+                g = re.match(r"use Rattle\.rules\.(\w+)\.(\w+)(?:\.\{(.*)\}| as \w+)$", use)
                 if g and (g.group(1), g.group(2)) in self.modules:
                     source = self.modules[g.group(1), g.group(2)]
-                    for name in re.split(r"[\s,]+", g.group(3)):
+                    for name in re.split(r"[\s,]+", g.group(3)) if g.group(3) else source.clauses:
                         if name in source.clauses:
-                            scope[name] = (self.python(source.key, name), arity_of(source.clauses[name]))
+                            here = name if g.group(3) else source.key[1] + "." + name
+                            scope[here] = (self.python(source.key, name), arity_of(source.clauses[name]))
             for name in m.clauses:
                 scope[name] = (self.python(k, name), arity_of(m.clauses[name]))
         for k, m in self.modules.items():
@@ -405,7 +427,7 @@ class World:
         args = ["a%d" % i for i in range(n)]
         lines = [f"def {python}({', '.join(args)}):"]
         for clause in clauses:
-            p = Parser(words_of(clause), self.scopes[key])
+            p = Parser(words_of(clause, self.modules[key].aliases), self.scopes[key])
             p.next()
             tests, binds = [], []
             for a in args:
@@ -433,7 +455,7 @@ class World:
 
     def sides(self, key, text):
         """The two sides of a fact as Python functions, or None where it is no equation of closed terms."""
-        w = words_of(text)
+        w = words_of(text, self.modules[key].aliases)
         if "→" in w or "≡" not in w:
             return None
         at = w.index("≡")
