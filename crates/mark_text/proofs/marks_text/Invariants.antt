@@ -1,12 +1,9 @@
 use Prim.Native.Nat.{◌+◌, ◌-◌, ◌*◌, ◌≤◌}
-use native.Mathlib.Omega.{arith}
-use mathlib.Core.Path.{◌≡◌, ◌∙◌}
+use mathlib.Core.Path.{◌≡◌}
 use mathlib.Core.List.{◌++◌}
 use lib.ListN.{length, take, drop}
-use borrow.Author.Rules.{rules}
 use Rattle.rules.specs.Lists.{each}
-use Rattle.rules.specs.Text.{ascii, mark_line, marks_text}
-use Rattle.mark_text.proofs.Lines.{length_fresh, header, price-next, line-next, line-none}
+use Rattle.rules.specs.Text.{mark_line, marks_text}
 use Rattle.mark_text.proofs.marks_text.Given as goal
 
 abbrev pub invariant-loop-i : goal.invariant-loop-i
