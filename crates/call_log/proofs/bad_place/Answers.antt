@@ -1,13 +1,9 @@
 -- `log::bad_place` meets its contract. The invariant: the first bad entry from the place on is the log's. Assumes nothing.
-use Prim.Native.Nat.{◌-◌, ◌≤◌}
 use native.Mathlib.Omega.{arith}
-use mathlib.Core.Path.{◌≡◌, refl, ◌∙◌}
-use mathlib.Core.List.{[], ◌∷◌}
-use lib.ListN.{length}
-use types.Run.{miss}
+use mathlib.Core.Path.{refl, ◌∙◌}
 use borrow.Author.Rules.{rules}
 use Rattle.call_log.specs.Log.{Entry, spelled}
-use Rattle.call_log.specs.Entries.{bad_at, rest_of, EntryAt}
+use Rattle.call_log.specs.Entries.{EntryAt}
 use Rattle.call_log.proofs.Steps.{good-entry, bad_here, bad_later, bad_nowhere}
 use Rattle.call_log.proofs.bad_place.Goals.{In_default, Start}
 use Rattle.call_log.proofs.bad_place.Goals as goal

@@ -1,13 +1,8 @@
 use Prim.Native.Nat.{◌-◌, ◌≤◌}
-use native.Mathlib.Omega.{arith}
-use mathlib.Core.Path.{◌≡◌, refl, ◌∙◌}
-use mathlib.Core.List.{[], ◌∷◌}
+use mathlib.Core.Path.{◌≡◌}
 use lib.ListN.{length}
-use types.Run.{miss}
-use borrow.Author.Rules.{rules}
-use Rattle.call_log.specs.Log.{Entry, spelled}
-use Rattle.call_log.specs.Entries.{bad_at, rest_of, EntryAt}
-use Rattle.call_log.proofs.Steps.{good-entry, bad_here, bad_later, bad_nowhere}
+use Rattle.call_log.specs.Log.{spelled}
+use Rattle.call_log.specs.Entries.{bad_at, rest_of}
 use Rattle.call_log.proofs.bad_place.Given as goal
 
 abbrev pub invariant-loop-at : goal.invariant-loop-at

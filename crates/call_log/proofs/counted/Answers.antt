@@ -1,6 +1,4 @@
 -- `log::counted` meets its contract. Assumes nothing.
-use mathlib.Core.List.{[], ◌∷◌}
-use types.Run.{miss}
 use borrow.Author.Rules.{rules}
 use Rattle.call_log.proofs.Steps.{with-bar, with_call}
 use Rattle.call_log.proofs.counted.Goals as goal

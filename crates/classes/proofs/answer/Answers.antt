@@ -2,7 +2,6 @@
 use native.Mathlib.Omega.{arith}
 use Rattle.laws.proofs.Answers.{given-rows}
 use Rattle.classes.proofs.Given.{ends-byte, ends-few, ends-lacking, ends-all}
-use borrow.Author.Rules.{rules}
 use Rattle.classes.proofs.answer.Goals as goal
 
 pub returns-then-case3-gt1 : goal.returns-then-case3-gt1

@@ -1,6 +1,5 @@
 -- `classes::at_or_beyond` meets its contract. Assumes nothing.
 use Rattle.classes.proofs.Second.{compared-at-or-beyond}
-use borrow.Author.Rules.{rules}
 use Rattle.classes.proofs.at_or_beyond.Goals as goal
 
 pub returns : goal.returns

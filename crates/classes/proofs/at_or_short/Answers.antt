@@ -1,5 +1,4 @@
 -- `classes::at_or_short` meets its contract. Assumes nothing.
-use borrow.Author.Rules.{rules}
 use Rattle.rules.specs.Classes.{at_or_beyond, at_or_short}
 use Rattle.classes.proofs.at_or_short.Goals as goal
 

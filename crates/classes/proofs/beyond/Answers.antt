@@ -1,6 +1,5 @@
 -- `classes::beyond` meets its contract. Assumes nothing.
 use Rattle.classes.proofs.Second.{compared-beyond}
-use borrow.Author.Rules.{rules}
 use Rattle.classes.proofs.beyond.Goals as goal
 
 pub returns : goal.returns

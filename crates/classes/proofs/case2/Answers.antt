@@ -1,15 +1,13 @@
 -- `classes::case2` meets its contract. The invariant: what is left of the items has the answer. Assumes nothing.
-use Prim.Native.Nat.{◌≤◌, ◌-◌}
 use native.Mathlib.Omega.{arith}
 use mathlib.Core.Path.{◌≡◌, sym, ◌∙◌}
 use mathlib.Core.List.{List}
 use mathlib.Core.Option.{some}
-use lib.ListN.{drop, get_elem?}
-use Rattle.rules.specs.Classes.{Item, case2_from, case2}
+use lib.ListN.{get_elem?}
+use Rattle.rules.specs.Classes.{Item}
 use Rattle.classes.specs.Items.{item_of, items_of}
 use Rattle.classes.proofs.Items.{items-over, item_in}
 use Rattle.classes.proofs.Second.{second_begins, second-over, second-other, second-fails, second-ends, second-next}
-use borrow.Author.Rules.{rules}
 use Rattle.classes.proofs.case2.Goals.{After-item_at-y, At-loop-j}
 use Rattle.classes.proofs.case2.Goals as goal
 
@@ -45,12 +43,11 @@ returns-then-ended c =
     }
 
 pub loop-j-preserved : goal.loop-j-preserved
-loop-j-preserved c =
-    (
-      omega arith,
-      second-next _ _ _ _ _ c.loop-j.invariant.1 _ (next c.before.before.before.before.before.before.before) c.if-y-x.false
-          (sym c.at_or_short-fails.ensures ∙ c.if-fails.false) (sym c.beyond-ended.ensures ∙ c.if-ended.false),
-    )
+loop-j-preserved c = (
+  omega arith,
+  second-next _ _ _ _ _ c.loop-j.invariant.1 _ (next c.before.before.before.before.before.before.before) c.if-y-x.false
+      (sym c.at_or_short-fails.ensures ∙ c.if-fails.false) (sym c.beyond-ended.ensures ∙ c.if-ended.false),
+)
 
 pub returns : goal.returns
 returns c =

@@ -1,14 +1,8 @@
 use Prim.Native.Nat.{◌≤◌, ◌-◌}
-use native.Mathlib.Omega.{arith}
-use mathlib.Core.Path.{◌≡◌, sym, ◌∙◌}
-use mathlib.Core.List.{List}
-use mathlib.Core.Option.{some}
-use lib.ListN.{drop, get_elem?}
-use Rattle.rules.specs.Classes.{Item, case2_from, case2}
+use mathlib.Core.Path.{◌≡◌}
+use lib.ListN.{drop}
+use Rattle.rules.specs.Classes.{case2_from, case2}
 use Rattle.classes.specs.Items.{item_of, items_of}
-use Rattle.classes.proofs.Items.{items-over, item_in}
-use Rattle.classes.proofs.Second.{second_begins, second-over, second-other, second-fails, second-ends, second-next}
-use borrow.Author.Rules.{rules}
 use Rattle.classes.proofs.case2.Given as goal
 
 abbrev pub invariant-loop-j : goal.invariant-loop-j

@@ -1,6 +1,5 @@
 -- `classes::case3` meets its contract. Assumes nothing.
 use Rattle.classes.proofs.After.{third-first, third-same, third-other}
-use borrow.Author.Rules.{rules}
 use Rattle.classes.proofs.case3.Goals as goal
 
 pub returns-in_default : goal.returns-in_default

@@ -1,6 +1,5 @@
 -- `classes::ends_before` meets its contract. Assumes nothing.
 use Rattle.classes.proofs.After.{before-first, before-no-end, before-end}
-use borrow.Author.Rules.{rules}
 use Rattle.classes.proofs.ends_before.Goals as goal
 
 pub returns-in_default : goal.returns-in_default

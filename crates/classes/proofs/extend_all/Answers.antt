@@ -1,12 +1,10 @@
 -- `classes::extend_all` meets its contract. The invariant: the rows from c on are extended, and those before are as they were. Assumes nothing.
-use Prim.Native.Nat.{◌≤◌}
 use native.Mathlib.Omega.{arith}
 use mathlib.Core.Path.{◌≡◌, sym}
 use lib.ListN.{length, length-set}
 use Rattle.laws.proofs.Arrays.{length_via}
-use Rattle.classes.specs.Items.{items_of}
 use Rattle.classes.proofs.Items.{items-length}
-use Rattle.classes.proofs.Extended.{Behind, behind-first, behind_more, behind-all}
+use Rattle.classes.proofs.Extended.{behind-first, behind_more, behind-all}
 use borrow.Author.Rules.{rules}
 use Rattle.classes.proofs.extend_all.Goals.{Start}
 use Rattle.classes.proofs.extend_all.Goals as goal
@@ -15,13 +13,12 @@ rows_long : (c : Start) → length c.args.found.rows ≡ 256
 rows_long c = search (rules, length_via)
 
 pub loop-c-init : goal.loop-c-init
-loop-c-init c =
-    (
-      omega arith,
-      rows_long c.before,
-      rows_long c.before,
-      behind-first _ _ _ _ (omega (arith, rows_long c.before, c.requires)) (sym (items-length _ _ _ _)),
-    )
+loop-c-init c = (
+  omega arith,
+  rows_long c.before,
+  rows_long c.before,
+  behind-first _ _ _ _ (omega (arith, rows_long c.before, c.requires)) (sym (items-length _ _ _ _)),
+)
 
 pub loop-c-preserved : goal.loop-c-preserved
 loop-c-preserved c =

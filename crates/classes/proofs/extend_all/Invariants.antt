@@ -1,12 +1,8 @@
 use Prim.Native.Nat.{◌≤◌}
-use native.Mathlib.Omega.{arith}
-use mathlib.Core.Path.{◌≡◌, sym}
-use lib.ListN.{length, length-set}
-use Rattle.laws.proofs.Arrays.{length_via}
+use mathlib.Core.Path.{◌≡◌}
+use lib.ListN.{length}
 use Rattle.classes.specs.Items.{items_of}
-use Rattle.classes.proofs.Items.{items-length}
-use Rattle.classes.proofs.Extended.{Behind, behind-first, behind_more, behind-all}
-use borrow.Author.Rules.{rules}
+use Rattle.classes.proofs.Extended.{Behind}
 use Rattle.classes.proofs.extend_all.Given as goal
 
 abbrev pub invariant-loop-c : goal.invariant-loop-c

@@ -1,7 +1,6 @@
 -- `classes::item_at` meets its contract. Assumes nothing.
 use mathlib.Core.Path.{refl}
 use Rattle.classes.specs.Items.{item_at}
-use borrow.Author.Rules.{rules}
 use Rattle.classes.proofs.item_at.Goals as goal
 
 pub returns : goal.returns

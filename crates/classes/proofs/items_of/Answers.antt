@@ -1,17 +1,17 @@
 -- `classes::items_of` meets its contract. The invariant: the items so far, and those of what is left of the level, are all; none is missing so far.
 -- Assumes nothing.
-use Prim.Native.Nat.{ℕ, ◌≤◌, ◌<◌, ◌-◌}
+use Prim.Native.Nat.{ℕ, ◌≤◌, ◌<◌}
 use native.Mathlib.Omega.{arith}
 use mathlib.Core.Path.{◌≡◌, refl, sym, ap, ◌∙◌}
-use mathlib.Core.Bool.{true, cond}
+use mathlib.Core.Bool.{cond}
 use mathlib.Core.Option.{some}
-use lib.ListN.{length, get_elem?, length-set}
+use lib.ListN.{get_elem?, length-set}
 use Rattle.rules.specs.Records.{levels_of}
 use Rattle.laws.proofs.Arrays.{length_via}
 use Rattle.laws.proofs.Tests.{pick_cond}
 use Rattle.classes.specs.Items.{items_of, level_of, row_item, read_of}
 use Rattle.classes.proofs.Items.{item-more}
-use Rattle.classes.proofs.Gather.{Long, Gathering, gathering-first, gathering-all, gathering-missing, gathering-there, level-length, level-at, item-read}
+use Rattle.classes.proofs.Gather.{Long, gathering-first, gathering-all, gathering-missing, gathering-there, level-length, level-at, item-read}
 use borrow.Author.Rules.{rules}
 use Rattle.classes.proofs.items_of.Goals.{After-chosen-t, After-item_from-read, After-over_strokes-u, At-loop-k, Start}
 use Rattle.classes.proofs.items_of.Goals as goal

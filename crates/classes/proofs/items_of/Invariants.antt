@@ -1,16 +1,10 @@
-use Prim.Native.Nat.{ℕ, ◌≤◌, ◌<◌, ◌-◌}
-use native.Mathlib.Omega.{arith}
-use mathlib.Core.Path.{◌≡◌, refl, sym, ap, ◌∙◌}
-use mathlib.Core.Bool.{true, cond}
-use mathlib.Core.Option.{some}
-use lib.ListN.{length, get_elem?, length-set}
+use Prim.Native.Nat.{◌≤◌, ◌-◌}
+use mathlib.Core.Path.{◌≡◌}
+use mathlib.Core.Bool.{true}
+use lib.ListN.{length}
 use Rattle.rules.specs.Records.{levels_of}
-use Rattle.laws.proofs.Arrays.{length_via}
-use Rattle.laws.proofs.Tests.{pick_cond}
-use Rattle.classes.specs.Items.{items_of, level_of, row_item, read_of}
-use Rattle.classes.proofs.Items.{item-more}
-use Rattle.classes.proofs.Gather.{Long, Gathering, gathering-first, gathering-all, gathering-missing, gathering-there, level-length, level-at, item-read}
-use borrow.Author.Rules.{rules}
+use Rattle.classes.specs.Items.{items_of, level_of, row_item}
+use Rattle.classes.proofs.Gather.{Gathering}
 use Rattle.classes.proofs.items_of.Given as goal
 
 abbrev pub invariant-loop-k : goal.invariant-loop-k

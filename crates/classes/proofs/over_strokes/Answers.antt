@@ -1,5 +1,4 @@
 -- `classes::over_strokes` meets its contract. Assumes nothing.
-use borrow.Author.Rules.{rules}
 use Rattle.classes.proofs.over_strokes.Goals as goal
 
 pub returns-then-bigs : goal.returns-then-bigs

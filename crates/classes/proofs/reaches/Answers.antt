@@ -1,5 +1,4 @@
 -- `classes::reaches` meets its contract. Assumes nothing.
-use borrow.Author.Rules.{rules}
 use Rattle.classes.proofs.reaches.Goals as goal
 
 pub returns : goal.returns

@@ -1,6 +1,5 @@
 -- `classes::tried` meets its contract. Assumes nothing.
 use Rattle.classes.proofs.After.{tried-third, tried-second, tried-none}
-use borrow.Author.Rules.{rules}
 use Rattle.classes.proofs.tried.Goals as goal
 
 pub returns-then-on-third : goal.returns-then-on-third

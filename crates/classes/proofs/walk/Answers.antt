@@ -1,17 +1,16 @@
 -- `classes::walk` meets its contract. The invariant: the rows, and the walk over what is left of the items, are the whole walk. Assumes nothing.
-use Prim.Native.Nat.{◌≤◌, ◌<◌, ◌-◌}
+use Prim.Native.Nat.{◌<◌}
 use native.Mathlib.Omega.{arith}
 use mathlib.Core.Path.{◌≡◌, refl}
 use mathlib.Core.List.{List}
-use mathlib.Core.Option.{none, some}
-use lib.ListN.{length, take, get_elem?, length-set}
-use Rattle.rules.specs.Classes.{Item, walk}
+use mathlib.Core.Option.{some}
+use lib.ListN.{length, get_elem?, length-set}
+use Rattle.rules.specs.Classes.{Item}
 use Rattle.classes.specs.Items.{item_of, items_of}
 use Rattle.classes.proofs.Items.{items-over, item_in}
 use Rattle.laws.proofs.Arrays.{one_more}
-use Rattle.classes.proofs.Walked.{Carries, carries_first, carries-all, carries-pass, carries-none, carries-begins, carries-some}
+use Rattle.classes.proofs.Walked.{carries_first, carries-all, carries-pass, carries-none, carries-begins, carries-some}
 use borrow.Author.Tests.{not-true, not-false}
-use borrow.Author.Rules.{rules}
 use Rattle.classes.proofs.walk.Goals.{After-item_at-x, At-loop-i}
 use Rattle.classes.proofs.walk.Goals as goal
 
@@ -26,24 +25,22 @@ here : (c : After-item_at-x) → get_elem? (items c.before.before) c.loop-i.i �
 here c = item_in _ _ _ _ _ _ c.loop-i-test.true c.item_at-x.ensures
 
 pub loop-i-preserved-then-not-next-i : goal.loop-i-preserved-then-not-next-i
-loop-i-preserved-then-not-next-i c =
-    (
-      omega arith,
-      omega arith,
-      c.loop-i.invariant.2,
-      carries-pass _ _ _ _ _ _ _ c.loop-i.invariant.3 _ (here c.before.before) _ c.wanted-now.ensures (not-true _ c.if-not-next-i.true-raw),
-    )
+loop-i-preserved-then-not-next-i c = (
+  omega arith,
+  omega arith,
+  c.loop-i.invariant.2,
+  carries-pass _ _ _ _ _ _ _ c.loop-i.invariant.3 _ (here c.before.before) _ c.wanted-now.ensures (not-true _ c.if-not-next-i.true-raw),
+)
 
 pub loop-i-preserved-in_default : goal.loop-i-preserved-in_default
-loop-i-preserved-in_default c =
-    (
-      omega arith,
-      omega arith,
-      c.loop-i.invariant.2,
-      carries-none _ _ _ _ _ _ _ c.loop-i.invariant.3 _ (here c.before.before.before.before.before) _
-          c.wanted-now.ensures _ c.loop-i-test.true _ c.case2-end.ensures _ c.tried-found.ensures
-          (not-false _ c.if-not-next-i.false-raw) c.in_default.is,
-    )
+loop-i-preserved-in_default c = (
+  omega arith,
+  omega arith,
+  c.loop-i.invariant.2,
+  carries-none _ _ _ _ _ _ _ c.loop-i.invariant.3 _ (here c.before.before.before.before.before) _
+      c.wanted-now.ensures _ c.loop-i-test.true _ c.case2-end.ensures _ c.tried-found.ensures
+      (not-false _ c.if-not-next-i.false-raw) c.in_default.is,
+)
 
 pub overflow_add-next : goal.overflow_add-next
 overflow_add-next c =

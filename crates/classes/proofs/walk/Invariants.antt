@@ -1,16 +1,10 @@
-use Prim.Native.Nat.{◌≤◌, ◌<◌, ◌-◌}
-use native.Mathlib.Omega.{arith}
-use mathlib.Core.Path.{◌≡◌, refl}
-use mathlib.Core.List.{List}
-use mathlib.Core.Option.{none, some}
-use lib.ListN.{length, take, get_elem?, length-set}
-use Rattle.rules.specs.Classes.{Item, walk}
-use Rattle.classes.specs.Items.{item_of, items_of}
-use Rattle.classes.proofs.Items.{items-over, item_in}
-use Rattle.laws.proofs.Arrays.{one_more}
-use Rattle.classes.proofs.Walked.{Carries, carries_first, carries-all, carries-pass, carries-none, carries-begins, carries-some}
-use borrow.Author.Tests.{not-true, not-false}
-use borrow.Author.Rules.{rules}
+use Prim.Native.Nat.{◌≤◌, ◌-◌}
+use mathlib.Core.Path.{◌≡◌}
+use mathlib.Core.Option.{none}
+use lib.ListN.{length, take}
+use Rattle.rules.specs.Classes.{walk}
+use Rattle.classes.specs.Items.{items_of}
+use Rattle.classes.proofs.Walked.{Carries}
 use Rattle.classes.proofs.walk.Given as goal
 
 abbrev pub invariant-loop-i : goal.invariant-loop-i

@@ -1,6 +1,5 @@
 -- `classes::wanted` meets its contract. Assumes nothing.
 use Rattle.classes.proofs.After.{wanted-first, wanted-after}
-use borrow.Author.Rules.{rules}
 use Rattle.classes.proofs.wanted.Goals as goal
 
 pub returns-in_default : goal.returns-in_default

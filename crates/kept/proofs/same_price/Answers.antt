@@ -1,7 +1,6 @@
 -- `kept::same_price` meets its contract. Assumes nothing.
 use mathlib.Core.Path.{sym, ◌∙◌}
 use denote.Floats.{passes}
-use borrow.Author.Rules.{rules}
 use Rattle.rules.specs.Refusals.{same_price}
 use Rattle.kept.proofs.Same.{no_price_lem}
 use Rattle.kept.proofs.same_price.Goals as goal

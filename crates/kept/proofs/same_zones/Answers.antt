@@ -1,11 +1,9 @@
 -- `kept::same_zones` meets its contract. The invariant: what is left of the two lists has the whole lists' answer. Assumes nothing.
-use Prim.Native.Nat.{◌≤◌, ◌<◌, ◌-◌}
+use Prim.Native.Nat.{◌≤◌, ◌<◌}
 use native.Mathlib.Omega.{arith}
-use mathlib.Core.Path.{◌≡◌, refl, sym, ◌∙◌}
-use lib.ListN.{length, take, drop}
-use borrow.Author.Rules.{rules}
+use mathlib.Core.Path.{refl, sym, ◌∙◌}
+use lib.ListN.{length}
 use borrow.Author.Tests.{not-true, not-false}
-use Rattle.rules.specs.Refusals.{same_zones}
 use Rattle.kept.proofs.Same.{priced-at, other-count, same_here, same-later, same_end}
 use Rattle.kept.proofs.same_zones.Goals.{In-loop-i, Start}
 use Rattle.kept.proofs.same_zones.Goals as goal

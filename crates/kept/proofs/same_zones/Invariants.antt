@@ -1,11 +1,7 @@
-use Prim.Native.Nat.{◌≤◌, ◌<◌, ◌-◌}
-use native.Mathlib.Omega.{arith}
-use mathlib.Core.Path.{◌≡◌, refl, sym, ◌∙◌}
-use lib.ListN.{length, take, drop}
-use borrow.Author.Rules.{rules}
-use borrow.Author.Tests.{not-true, not-false}
+use Prim.Native.Nat.{◌≤◌, ◌-◌}
+use mathlib.Core.Path.{◌≡◌}
+use lib.ListN.{take, drop}
 use Rattle.rules.specs.Refusals.{same_zones}
-use Rattle.kept.proofs.Same.{priced-at, other-count, same_here, same-later, same_end}
 use Rattle.kept.proofs.same_zones.Given as goal
 
 abbrev pub invariant-loop-i : goal.invariant-loop-i

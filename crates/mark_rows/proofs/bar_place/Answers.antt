@@ -1,10 +1,6 @@
 -- `mark_rows::bar_place` meets its contract. The invariant: the bars that are passed are below the bar. Assumes nothing.
-use Prim.Native.Nat.{ℕ, ◌-◌, ◌<◌, ◌≤◌}
 use native.Mathlib.Omega.{arith}
 use mathlib.Core.Path.{◌≡◌}
-use lib.ListN.{take}
-use borrow.Author.Rules.{rules}
-use Rattle.laws.proofs.Lists.{All}
 use Rattle.mark_rows.proofs.Bars.{below_next}
 use Rattle.mark_rows.proofs.bar_place.Goals as goal
 
@@ -12,7 +8,7 @@ pub loop-i-init : goal.loop-i-init
 loop-i-init c = (omega arith, c.requires.2)
 
 pub returns-then-bar-bars : goal.returns-then-bar-bars
-returns-then-bar-bars c = record { upper_bound = omega arith; all = c.loop-i.invariant.1; bar_bound = λ h. c.if-bar-bars.true; }
+returns-then-bar-bars c = record { upper_bound = omega arith; all = c.loop-i.invariant.1; bar_bound = λ h. c.if-bar-bars.true }
 
 pub loop-i-preserved : goal.loop-i-preserved
 loop-i-preserved c =
@@ -21,4 +17,4 @@ loop-i-preserved c =
 pub returns : goal.returns
 returns c =
     let inv = c.loop-i.invariant in
-    let all : c.loop-i.i ≡ c.args.n = omega (arith, inv.0, c.loop-i-test.false) in record { upper_bound = omega arith; all = rw all at inv.1; bar_bound = λ h. omega arith; }
+    let all : c.loop-i.i ≡ c.args.n = omega (arith, inv.0, c.loop-i-test.false) in record { upper_bound = omega arith; all = rw all at inv.1; bar_bound = λ h. omega arith }

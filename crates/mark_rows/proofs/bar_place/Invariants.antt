@@ -1,10 +1,6 @@
 use Prim.Native.Nat.{ℕ, ◌-◌, ◌<◌, ◌≤◌}
-use native.Mathlib.Omega.{arith}
-use mathlib.Core.Path.{◌≡◌}
 use lib.ListN.{take}
-use borrow.Author.Rules.{rules}
 use Rattle.laws.proofs.Lists.{All}
-use Rattle.mark_rows.proofs.Bars.{below_next}
 use Rattle.mark_rows.proofs.bar_place.Given as goal
 
 abbrev pub invariant-loop-i : goal.invariant-loop-i

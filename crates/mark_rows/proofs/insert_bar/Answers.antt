@@ -2,9 +2,7 @@
 use Prim.Native.Nat.{◌<◌, ◌≤◌}
 use native.Mathlib.Omega.{arith}
 use mathlib.Core.Path.{◌≡◌, refl, ◌∙◌}
-use mathlib.Core.Logic.{⊎_elim}
 use lib.ListN.{get_or, length}
-use borrow.Author.Rules.{rules}
 use Rattle.mark_rows.proofs.Bars.{inserted-none, inserted_new}
 use Rattle.mark_rows.proofs.insert_bar.Goals.{Joined-at-n, Start}
 use Rattle.mark_rows.proofs.insert_bar.Goals as goal
@@ -29,8 +27,12 @@ bar_place-at-requires c =
     (long c.before.before, c.start_at-start.ensures.upper_bound, c.start_at-start.ensures.all)
 
 pub returns-then-bars-at : goal.returns-then-bars-at
-returns-then-bars-at c = record { bars_after = inserted-none _ _ _ _ c.requires.0 c.bar_place-at.ensures.upper_bound c.bar_place-at.ensures.all c.if-at-n.true c.if-bars-at.true; bars_len_unchanged = refl; n_le_count = (omega arith, omega arith, omega arith); }
+returns-then-bars-at c = record { bars_after = inserted-none _ _ _ _ c.requires.0 c.bar_place-at.ensures.upper_bound c.bar_place-at.ensures.all c.if-at-n.true c.if-bars-at.true; bars_len_unchanged = refl; n_le_count = (omega arith, omega arith, omega arith) }
 
 pub returns : goal.returns
-returns c = record { bars_after = c.put_in.ensures.bars_after
-          ∙ inserted_new _ _ _ _ c.requires.0 c.bar_place-at.ensures.upper_bound c.bar_place-at.ensures.all c.bar_place-at.ensures.bar_bound (other c.before.before.before.before.before); bars_len_unchanged = c.put_in.ensures.bars_len_unchanged; n_le_count = (omega arith, omega arith, omega arith); }
+returns c = record {
+  bars_after = c.put_in.ensures.bars_after
+      ∙ inserted_new _ _ _ _ c.requires.0 c.bar_place-at.ensures.upper_bound c.bar_place-at.ensures.all c.bar_place-at.ensures.bar_bound (other c.before.before.before.before.before);
+  bars_len_unchanged = c.put_in.ensures.bars_len_unchanged;
+  n_le_count = (omega arith, omega arith, omega arith);
+}

@@ -1,5 +1,4 @@
 -- `mark_rows::key_of` meets its contract. Assumes nothing.
-use borrow.Author.Rules.{rules}
 use Rattle.mark_rows.proofs.Gathered.{key-buy, key-sell}
 use Rattle.mark_rows.proofs.key_of.Goals as goal
 

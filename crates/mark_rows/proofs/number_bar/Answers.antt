@@ -2,7 +2,6 @@
 use Prim.Native.Nat.{◌≤◌}
 use native.Mathlib.Omega.{arith}
 use lib.ListN.{length}
-use borrow.Author.Rules.{rules}
 use Rattle.mark_rows.proofs.Numbers.{bar-first, bar-zero, bar-before, bar-next}
 use Rattle.mark_rows.proofs.number_bar.Goals.{Start}
 use Rattle.mark_rows.proofs.number_bar.Goals as goal

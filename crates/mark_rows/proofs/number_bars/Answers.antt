@@ -1,11 +1,8 @@
 -- `mark_rows::number_bars` meets its contract. The invariant: the rows so far, with the marks of the bars that are left pushed, come to all. Assumes nothing.
-use Prim.Native.Nat.{◌-◌, ◌<◌, ◌≤◌}
 use native.Mathlib.Omega.{arith}
-use lib.ListN.{get_or}
-use borrow.Author.Rules.{rules}
 use Rattle.laws.proofs.Lists.{all_in}
 use Rattle.mark_rows.proofs.Gathered.{room_512}
-use Rattle.mark_rows.proofs.Numbers.{taken_at, Numbering, numbering-first, numbering-next, numbering-all}
+use Rattle.mark_rows.proofs.Numbers.{taken_at, numbering-first, numbering-next, numbering-all}
 use Rattle.mark_rows.proofs.number_bars.Goals as goal
 
 pub loop-i-init : goal.loop-i-init
@@ -29,4 +26,4 @@ loop-i-preserved c =
 
 pub returns : goal.returns
 returns c =
-    let inv = c.loop-i.invariant in record { numbers_bars = numbering-all _ _ _ _ _ _ _ c.requires.k_in_bounds.0 c.requires.k_in_bounds.2 _ _ _ _ c.loop-i.i inv c.loop-i-test.false; keeps_room = inv.room; grown = inv.grown; }
+    let inv = c.loop-i.invariant in record { numbers_bars = numbering-all _ _ _ _ _ _ _ c.requires.k_in_bounds.0 c.requires.k_in_bounds.2 _ _ _ _ c.loop-i.i inv c.loop-i-test.false; keeps_room = inv.room; grown = inv.grown }

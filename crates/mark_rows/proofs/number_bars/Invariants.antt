@@ -1,10 +1,5 @@
-use Prim.Native.Nat.{◌-◌, ◌<◌, ◌≤◌}
-use native.Mathlib.Omega.{arith}
-use lib.ListN.{get_or}
-use borrow.Author.Rules.{rules}
-use Rattle.laws.proofs.Lists.{all_in}
-use Rattle.mark_rows.proofs.Gathered.{room_512}
-use Rattle.mark_rows.proofs.Numbers.{taken_at, Numbering, numbering-first, numbering-next, numbering-all}
+use Prim.Native.Nat.{◌-◌}
+use Rattle.mark_rows.proofs.Numbers.{Numbering}
 use Rattle.mark_rows.proofs.number_bars.Given as goal
 
 abbrev pub invariant-loop-i : goal.invariant-loop-i

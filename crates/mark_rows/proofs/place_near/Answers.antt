@@ -1,6 +1,5 @@
 -- `mark_rows::place_near` meets its contract. Assumes nothing.
 use native.Mathlib.Omega.{arith}
-use borrow.Author.Rules.{rules}
 use Rattle.mark_rows.proofs.Places.{guessed_place}
 use Rattle.mark_rows.proofs.place_near.Goals as goal
 

@@ -1,6 +1,5 @@
 -- `mark_rows::price_at` meets its contract. Assumes nothing.
 use mathlib.Core.Path.{refl}
-use borrow.Author.Rules.{rules}
 use Rattle.rules.specs.Marks.{price_at}
 use Rattle.mark_rows.proofs.price_at.Goals as goal
 

@@ -1,9 +1,7 @@
 -- `mark_rows::put_in` meets its contract. The invariant: with the bar that is held in its place, the bars passed and those left are all. Assumes nothing.
-use Prim.Native.Nat.{◌-◌, ◌≤◌}
 use native.Mathlib.Omega.{arith}
-use mathlib.Core.Path.{◌≡◌, refl}
-use mathlib.Core.List.{◌∷◌, ◌++◌}
-use lib.ListN.{length, take, drop, length-set}
+use mathlib.Core.Path.{refl}
+use lib.ListN.{length-set}
 use borrow.Author.Rules.{rules}
 use Rattle.mark_rows.proofs.Bars.{put_next, put_last}
 use Rattle.mark_rows.proofs.put_in.Goals as goal
@@ -24,4 +22,4 @@ shape_of-bars c = simp length-set c.loop-i.invariant.1
 
 pub returns : goal.returns
 returns c =
-    let inv = c.loop-i.invariant in record { bars_after = put_last _ _ c.loop-i.i _ _ (omega (arith, inv, c.requires)) inv.2 c.loop-i-test.false inv.0; bars_len_unchanged = simp length-set inv.1; }
+    let inv = c.loop-i.invariant in record { bars_after = put_last _ _ c.loop-i.i _ _ (omega (arith, inv, c.requires)) inv.2 c.loop-i-test.false inv.0; bars_len_unchanged = simp length-set inv.1 }

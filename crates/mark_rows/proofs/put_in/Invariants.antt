@@ -1,10 +1,7 @@
 use Prim.Native.Nat.{◌-◌, ◌≤◌}
-use native.Mathlib.Omega.{arith}
-use mathlib.Core.Path.{◌≡◌, refl}
+use mathlib.Core.Path.{◌≡◌}
 use mathlib.Core.List.{◌∷◌, ◌++◌}
-use lib.ListN.{length, take, drop, length-set}
-use borrow.Author.Rules.{rules}
-use Rattle.mark_rows.proofs.Bars.{put_next, put_last}
+use lib.ListN.{length, take, drop}
 use Rattle.mark_rows.proofs.put_in.Given as goal
 
 abbrev pub invariant-loop-i : goal.invariant-loop-i

@@ -1,5 +1,4 @@
 -- `mark_rows::row_of` meets its contract. Assumes nothing.
-use borrow.Author.Rules.{rules}
 use Rattle.mark_rows.proofs.Filled.{mark-is}
 use Rattle.mark_rows.proofs.row_of.Goals as goal
 

@@ -1,9 +1,7 @@
 -- `mark_rows::rows_of` meets its contract. The invariant: the rows so far are the marks of the keys passed. Assumes nothing.
-use Prim.Native.Nat.{◌-◌, ◌≤◌}
 use native.Mathlib.Omega.{arith}
-use mathlib.Core.Path.{◌≡◌, refl}
-use lib.ListN.{length, take, length-set}
-use borrow.Author.Rules.{rules}
+use mathlib.Core.Path.{refl}
+use lib.ListN.{length-set}
 use Rattle.mark_rows.specs.Rows.{marks_in}
 use Rattle.mark_rows.proofs.Numbers.{taken_at}
 use Rattle.mark_rows.proofs.Filled.{marks-next, rows-given}

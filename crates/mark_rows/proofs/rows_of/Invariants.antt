@@ -1,11 +1,7 @@
 use Prim.Native.Nat.{◌-◌, ◌≤◌}
-use native.Mathlib.Omega.{arith}
-use mathlib.Core.Path.{◌≡◌, refl}
-use lib.ListN.{length, take, length-set}
-use borrow.Author.Rules.{rules}
+use mathlib.Core.Path.{◌≡◌}
+use lib.ListN.{length, take}
 use Rattle.mark_rows.specs.Rows.{marks_in}
-use Rattle.mark_rows.proofs.Numbers.{taken_at}
-use Rattle.mark_rows.proofs.Filled.{marks-next, rows-given}
 use Rattle.mark_rows.proofs.rows_of.Given as goal
 
 abbrev pub invariant-loop-i : goal.invariant-loop-i

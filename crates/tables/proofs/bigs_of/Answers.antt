@@ -2,11 +2,10 @@
 -- big is behind those. Assumes nothing.
 use mathlib.Core.Path.{◌≡◌, refl, ap, sym, ◌∙◌}
 use mathlib.Core.Bool.{false≢true}
-use mathlib.Core.List.{map}
-use Prim.Native.Nat.{◌≤◌, ◌<◌, ◌-◌}
+use Prim.Native.Nat.{◌≤◌, ◌<◌}
 use native.Mathlib.Omega.{arith}
 use lib.Dec.{leb}
-use lib.ListN.{length, get_or, take}
+use lib.ListN.{length, get_or}
 use borrow.Author.Rules.{rules}
 use borrow.Author.Tests.{leb-true}
 use Rattle.chart.specs.declared.Triple.{Triple}
@@ -17,10 +16,9 @@ use Rattle.laws.proofs.Answers.{Counted}
 use Rattle.laws.proofs.Arrays.{length_via}
 use Rattle.levels.proofs.Read.{no_triple, stroke-read, range-read}
 use Rattle.levels.proofs.Tests.{both, counts-fit, bad-counts, bad-segments, bad-superiors, bad-rest}
-use Rattle.tables.specs.Rows.{Wide, rowsIn}
-use Rattle.tables.specs.Tables.{big_of, big_in, Bigs}
+use Rattle.tables.specs.Tables.{Bigs}
 use Rattle.tables.proofs.Bigs.{range_ends, bigs_more, bigs_all}
-use Rattle.tables.proofs.Right.{Left, left-next, left_end, LeftBigs, bigs-next, bigs-end}
+use Rattle.tables.proofs.Right.{left-next, left_end, bigs-next, bigs-end}
 use Rattle.tables.proofs.bigs_of.Goals.{After-loop-k, At-loop-at, At-loop-k, Else-overfull, Else-wrong_triples-2, Start}
 use Rattle.tables.proofs.bigs_of.Goals as goal
 
@@ -50,19 +48,19 @@ long : (c : At-loop-at) → (start c).args.chart.stroke_count ≤ length (start 
 long c = omega (arith, c.loop-at.invariant.1, strokes_long (start c))
 
 pub returns-then-overfull : goal.returns-then-overfull
-returns-then-overfull c = record { value = bad-counts _ (sym c.overfull.ensures ∙ c.if-overfull.true); bigs = λ e. absurd (false≢true (sym e)); }
+returns-then-overfull c = record { value = bad-counts _ (sym c.overfull.ensures ∙ c.if-overfull.true); bigs = λ e. absurd (false≢true (sym e)) }
 
 pub wrong_triples-requires : goal.wrong_triples-requires
 wrong_triples-requires c = (fits c.before).segments
 
 pub returns-then-wrong_triples : goal.returns-then-wrong_triples
-returns-then-wrong_triples c = record { value = bad-segments _ (sym c.wrong_triples.ensures ∙ c.if-wrong_triples.true); bigs = λ e. absurd (false≢true (sym e)); }
+returns-then-wrong_triples c = record { value = bad-segments _ (sym c.wrong_triples.ensures ∙ c.if-wrong_triples.true); bigs = λ e. absurd (false≢true (sym e)) }
 
 pub wrong_triples-requires-2 : goal.wrong_triples-requires-2
 wrong_triples-requires-2 c = (fits c.before.before.before.before).superiors
 
 pub returns-then-wrong_triples-2 : goal.returns-then-wrong_triples-2
-returns-then-wrong_triples-2 c = record { value = bad-superiors _ (sym c.wrong_triples-2.ensures ∙ c.if-wrong_triples-2.true); bigs = λ e. absurd (false≢true (sym e)); }
+returns-then-wrong_triples-2 c = record { value = bad-superiors _ (sym c.wrong_triples-2.ensures ∙ c.if-wrong_triples-2.true); bigs = λ e. absurd (false≢true (sym e)) }
 
 pub loop-at-init : goal.loop-at-init
 loop-at-init c = (omega arith, (fits (else1 c)).strokes, λ plain low. refl)
@@ -151,8 +149,11 @@ returns-then-plain-most c =
     let two = both head.loop-at.plain (leb head2.loop-k.most 1) c.if-plain-most.true in
     let low = leb-true head2.loop-k.most 1 two.1 in
     let strokes = left_end _ head.loop-at.at _ (long head) _ _ head2.loop-at-test.false head.loop-at.invariant.2 two.0 (omega (arith, low, i.2)) in
-    let bigs = bigs-end _ head2.loop-k.k _ (omega (arith, bigs_long begin, i.1)) _ after.loop-k-test.false i.4 low in record { value = sym (sym else3.wrong_triples-2.ensures ∙ else3.if-wrong_triples-2.false)
-          ∙ bad-rest _ (sym e1.overfull.ensures ∙ e1.if-overfull.false) strokes (sym else2.wrong_triples.ensures ∙ else2.if-wrong_triples.false) bigs; bigs = λ e. filled after; }
+    let bigs = bigs-end _ head2.loop-k.k _ (omega (arith, bigs_long begin, i.1)) _ after.loop-k-test.false i.4 low in record {
+      value = sym (sym else3.wrong_triples-2.ensures ∙ else3.if-wrong_triples-2.false)
+          ∙ bad-rest _ (sym e1.overfull.ensures ∙ e1.if-overfull.false) strokes (sym else2.wrong_triples.ensures ∙ else2.if-wrong_triples.false) bigs;
+      bigs = λ e. filled after;
+    }
 
 pub returns : goal.returns
-returns c = record { value = c.bad_chart.ensures; bigs = λ e. filled c.before.before; }
+returns c = record { value = c.bad_chart.ensures; bigs = λ e. filled c.before.before }

@@ -1,24 +1,11 @@
-use mathlib.Core.Path.{◌≡◌, refl, ap, sym, ◌∙◌}
-use mathlib.Core.Bool.{false≢true}
+use mathlib.Core.Path.{◌≡◌}
 use mathlib.Core.List.{map}
-use Prim.Native.Nat.{◌≤◌, ◌<◌, ◌-◌}
-use native.Mathlib.Omega.{arith}
-use lib.Dec.{leb}
-use lib.ListN.{length, get_or, take}
-use borrow.Author.Rules.{rules}
-use borrow.Author.Tests.{leb-true}
-use Rattle.chart.specs.declared.Triple.{Triple}
-use Rattle.chart.specs.Table.{point_of}
+use Prim.Native.Nat.{◌≤◌, ◌-◌}
+use lib.ListN.{take}
 use Rattle.rules.specs.Records.{levels_of}
-use Rattle.rules.specs.Ranges.{last_stroke}
-use Rattle.laws.proofs.Answers.{Counted}
-use Rattle.laws.proofs.Arrays.{length_via}
-use Rattle.levels.proofs.Read.{no_triple, stroke-read, range-read}
-use Rattle.levels.proofs.Tests.{both, counts-fit, bad-counts, bad-segments, bad-superiors, bad-rest}
 use Rattle.tables.specs.Rows.{Wide, rowsIn}
-use Rattle.tables.specs.Tables.{big_of, big_in, Bigs}
-use Rattle.tables.proofs.Bigs.{range_ends, bigs_more, bigs_all}
-use Rattle.tables.proofs.Right.{Left, left-next, left_end, LeftBigs, bigs-next, bigs-end}
+use Rattle.tables.specs.Tables.{big_of, big_in}
+use Rattle.tables.proofs.Right.{Left, LeftBigs}
 use Rattle.tables.proofs.bigs_of.Given as goal
 
 abbrev pub invariant-loop-at : goal.invariant-loop-at

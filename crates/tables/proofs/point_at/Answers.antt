@@ -1,5 +1,4 @@
 -- `tables::point_at` meets its contract. Assumes nothing.
-use borrow.Author.Rules.{rules}
 use borrow.Author.Tests.{eq-eqb, ne_eqb}
 use Rattle.tables.specs.Tables.{point_in}
 use Rattle.tables.proofs.point_at.Goals as goal

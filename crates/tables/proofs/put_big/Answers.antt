@@ -1,5 +1,4 @@
 -- `tables::put_big` meets its contract. Assumes nothing.
-use borrow.Author.Rules.{rules}
 use Rattle.tables.proofs.Bigs.{puts-missing, puts-found}
 use Rattle.tables.proofs.put_big.Goals as goal
 

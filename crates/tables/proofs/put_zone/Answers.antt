@@ -1,5 +1,4 @@
 -- `tables::put_zone` meets its contract. Assumes nothing.
-use borrow.Author.Rules.{rules}
 use mathlib.Core.Path.{refl}
 use Rattle.tables.specs.Tables.{zone_in}
 use Rattle.tables.proofs.Rows.{puts}

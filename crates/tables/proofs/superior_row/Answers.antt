@@ -1,5 +1,4 @@
 -- `tables::superior_row` meets its contract. Assumes nothing.
-use borrow.Author.Rules.{rules}
 use Rattle.tables.proofs.Sups.{row-reversed, row-no-big, row-there}
 use Rattle.tables.proofs.superior_row.Goals as goal
 

@@ -1,13 +1,7 @@
 -- `tables::superiors_of` meets its contract. The invariant: the first k rows are the first k superiors. Assumes nothing.
-use Prim.Native.Nat.{◌-◌, ◌≤◌}
 use native.Mathlib.Omega.{arith}
 use mathlib.Core.Path.{◌≡◌, refl}
-use mathlib.Core.List.{List, map}
-use lib.ListN.{length, take, length-set}
-use lib.Ieee.{Float}
-use borrow.Author.Rules.{rules}
-use Rattle.rules.specs.Records.{Levels}
-use Rattle.tables.specs.Tables.{Bigs, sup_of, sup_in}
+use lib.ListN.{length, length-set}
 use Rattle.tables.proofs.Sups.{sups_more, sups_all}
 use Rattle.tables.proofs.superiors_of.Goals.{Start}
 use Rattle.tables.proofs.superiors_of.Goals as goal

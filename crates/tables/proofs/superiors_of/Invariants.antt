@@ -1,13 +1,10 @@
 use Prim.Native.Nat.{◌-◌, ◌≤◌}
-use native.Mathlib.Omega.{arith}
-use mathlib.Core.Path.{◌≡◌, refl}
+use mathlib.Core.Path.{◌≡◌}
 use mathlib.Core.List.{List, map}
-use lib.ListN.{length, take, length-set}
+use lib.ListN.{length, take}
 use lib.Ieee.{Float}
-use borrow.Author.Rules.{rules}
 use Rattle.rules.specs.Records.{Levels}
 use Rattle.tables.specs.Tables.{Bigs, sup_of, sup_in}
-use Rattle.tables.proofs.Sups.{sups_more, sups_all}
 use Rattle.tables.proofs.superiors_of.Given as goal
 
 abbrev pub invariant-loop-k : goal.invariant-loop-k

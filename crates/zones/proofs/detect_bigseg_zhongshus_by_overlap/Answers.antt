@@ -1,6 +1,5 @@
 -- `zones::detect_bigseg_zhongshus_by_overlap` meets its contract. Assumes nothing.
 use mathlib.Core.Path.{refl, ap, ◌∙◌}
-use borrow.Author.Rules.{rules}
 use Rattle.rules.specs.Answer.{given}
 use Rattle.zones.proofs.Call.{zones_by}
 use Rattle.zones.proofs.detect_bigseg_zhongshus_by_overlap.Goals as goal

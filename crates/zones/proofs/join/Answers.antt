@@ -1,6 +1,5 @@
 -- `zones::join` meets its contract. Assumes nothing.
 use Rattle.zones.proofs.Laws.{joined}
-use borrow.Author.Rules.{rules}
 use Rattle.zones.proofs.join.Goals as goal
 
 pub returns : goal.returns

@@ -1,6 +1,5 @@
 -- `zones::joins` meets its contract. Assumes nothing.
 use Rattle.zones.proofs.Laws.{joins-second, joins-later, joins-not}
-use borrow.Author.Rules.{rules}
 use Rattle.zones.proofs.joins.Goals as goal
 
 pub returns-then-z-eq1 : goal.returns-then-z-eq1

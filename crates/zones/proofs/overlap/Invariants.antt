@@ -1,7 +1,5 @@
 use Prim.Native.Nat.{◌-◌}
-use native.Mathlib.Omega.{arith}
-use borrow.Author.Rules.{rules}
-use Rattle.zones.proofs.Tables.{Between, starts-all, owner-skips, owner-puts, owner-full, finished}
+use Rattle.zones.proofs.Tables.{Between}
 use Rattle.zones.proofs.overlap.Given as goal
 
 abbrev pub invariant-loop-h : goal.invariant-loop-h

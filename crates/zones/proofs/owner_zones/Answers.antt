@@ -1,11 +1,9 @@
 -- `zones::owner_zones` meets its contract. The invariant: the zones that are put, with those of the run and of the records to come, are the
 -- owner's. Assumes nothing.
-use Prim.Native.Nat.{◌+◌, ◌-◌, ◌<◌}
 use native.Mathlib.Omega.{arith}
 use mathlib.Core.Path.{refl, sym, ◌∙◌}
-use borrow.Author.Rules.{rules}
 use borrow.Author.Tests.{not-true, not-false}
-use Rattle.zones.proofs.Tables.{Scanning, starts-scan, past_same, past-missing, goes_on, puts_one, no_room, ends_on, ends-puts, ends-full}
+use Rattle.zones.proofs.Tables.{starts-scan, past_same, past-missing, goes_on, puts_one, no_room, ends_on, ends-puts, ends-full}
 use Rattle.zones.proofs.owner_zones.Goals as goal
 
 pub loop-at-init : goal.loop-at-init
@@ -36,9 +34,12 @@ loop-at-preserved-then-not-next c =
 
 pub returns-then-count-eq256 : goal.returns-then-count-eq256
 returns-then-count-eq256 c =
-    let inv = c.loop-at.invariant in record { upper_bound = (omega arith, inv.1.wide); owner_zones = no_room _ _ _ _ _ _ _ _ _ _ _ _ _ _ _ inv.1 c.loop-at-test.true (λ e. c.if-way_at-direction.false (c.way_at.ensures ∙ e)) _
+    let inv = c.loop-at.invariant in record {
+      upper_bound = (omega arith, inv.1.wide);
+      owner_zones = no_room _ _ _ _ _ _ _ _ _ _ _ _ _ _ _ inv.1 c.loop-at-test.true (λ e. c.if-way_at-direction.false (c.way_at.ensures ∙ e)) _
           (sym c.range_at.ensures ∙ c.in-Found.is) c.take_member-next.result.closed c.take_member-next.result.run
-          (c.take_member-next.ensures.members_bound, c.take_member-next.ensures.takes) (not-false _ c.if-not-next.false) c.if-count-eq256.true; }
+          (c.take_member-next.ensures.members_bound, c.take_member-next.ensures.takes) (not-false _ c.if-not-next.false) c.if-count-eq256.true;
+    }
 
 pub put_zone-requires : goal.put_zone-requires
 put_zone-requires c =
@@ -61,11 +62,11 @@ loop-at-preserved c =
 
 pub returns-then-not-begun : goal.returns-then-not-begun
 returns-then-not-begun c =
-    let inv = c.loop-at.invariant.1 in record { upper_bound = (omega (arith, inv.few), inv.wide); owner_zones = ends_on _ _ _ _ _ _ _ _ _ _ _ _ _ _ _ inv c.loop-at-test.false (not-true _ c.if-not-begun.true-raw); }
+    let inv = c.loop-at.invariant.1 in record { upper_bound = (omega (arith, inv.few), inv.wide); owner_zones = ends_on _ _ _ _ _ _ _ _ _ _ _ _ _ _ _ inv c.loop-at-test.false (not-true _ c.if-not-begun.true-raw) }
 
 pub returns-then-count-eq256-2 : goal.returns-then-count-eq256-2
 returns-then-count-eq256-2 c =
-    let inv = c.loop-at.invariant.1 in record { upper_bound = (omega arith, inv.wide); owner_zones = ends-full _ _ _ _ _ _ _ _ _ _ _ _ _ _ _ inv c.loop-at-test.false (not-false _ c.if-not-begun.false-raw) c.if-count-eq256-2.true; }
+    let inv = c.loop-at.invariant.1 in record { upper_bound = (omega arith, inv.wide); owner_zones = ends-full _ _ _ _ _ _ _ _ _ _ _ _ _ _ _ inv c.loop-at-test.false (not-false _ c.if-not-begun.false-raw) c.if-count-eq256-2.true }
 
 pub put_zone-requires-2 : goal.put_zone-requires-2
 put_zone-requires-2 c =
@@ -74,5 +75,8 @@ put_zone-requires-2 c =
 
 pub returns : goal.returns
 returns c =
-    let inv = c.loop-at.invariant.1 in record { upper_bound = (omega (arith, inv.few), c.put_zone-2.ensures.wide); owner_zones = ends-puts _ _ _ _ _ _ _ _ _ _ _ _ _ _ _ inv c.loop-at-test.false _ _ (not-false _ c.if-not-begun.false-raw)
-          c.if-count-eq256-2.false c.put_zone-2.ensures; }
+    let inv = c.loop-at.invariant.1 in record {
+      upper_bound = (omega (arith, inv.few), c.put_zone-2.ensures.wide);
+      owner_zones = ends-puts _ _ _ _ _ _ _ _ _ _ _ _ _ _ _ inv c.loop-at-test.false _ _ (not-false _ c.if-not-begun.false-raw)
+          c.if-count-eq256-2.false c.put_zone-2.ensures;
+    }

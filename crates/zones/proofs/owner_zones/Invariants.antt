@@ -1,9 +1,5 @@
 use Prim.Native.Nat.{◌+◌, ◌-◌, ◌<◌}
-use native.Mathlib.Omega.{arith}
-use mathlib.Core.Path.{refl, sym, ◌∙◌}
-use borrow.Author.Rules.{rules}
-use borrow.Author.Tests.{not-true, not-false}
-use Rattle.zones.proofs.Tables.{Scanning, starts-scan, past_same, past-missing, goes_on, puts_one, no_room, ends_on, ends-puts, ends-full}
+use Rattle.zones.proofs.Tables.{Scanning}
 use Rattle.zones.proofs.owner_zones.Given as goal
 
 abbrev pub invariant-loop-at : goal.invariant-loop-at

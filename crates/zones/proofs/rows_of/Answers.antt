@@ -1,10 +1,7 @@
 -- `zones::rows_of` meets its contract. The invariant: the first i rows are the first i zones. Assumes nothing.
-use Prim.Native.Nat.{◌-◌, ◌≤◌}
 use native.Mathlib.Omega.{arith}
-use mathlib.Core.Path.{◌≡◌, refl}
-use lib.ListN.{length, take, length-set}
-use borrow.Author.Rules.{rules}
-use Rattle.tables.specs.Tables.{zones_in}
+use mathlib.Core.Path.{refl}
+use lib.ListN.{length-set}
 use Rattle.zones.proofs.Tables.{row_more, rows_all}
 use Rattle.zones.proofs.rows_of.Goals as goal
 

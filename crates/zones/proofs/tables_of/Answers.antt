@@ -2,7 +2,6 @@
 use native.Mathlib.Omega.{arith}
 use mathlib.Core.Path.{◌≡◌, refl, sym, ◌∙◌}
 use mathlib.Core.Bool.{false}
-use borrow.Author.Rules.{rules}
 use Rattle.rules.specs.Records.{levels_of}
 use Rattle.rules.specs.Refusals.{bad_chart}
 use Rattle.rules.specs.Zones.{overlap_zones}
@@ -54,11 +53,11 @@ zones c =
 
 pub returns-then-bigs_of : goal.returns-then-bigs_of
 returns-then-bigs_of c =
-    let number = c.no_tables.ensures ∙ number-bad _ _ (sym c.bigs_of.ensures.value ∙ c.if-bigs_of.true) in record { number_value = number; tables = λ none. absurd (omega (arith, none, c.no_tables.ensures)); wide = c.requires.1; }
+    let number = c.no_tables.ensures ∙ number-bad _ _ (sym c.bigs_of.ensures.value ∙ c.if-bigs_of.true) in record { number_value = number; tables = λ none. absurd (omega (arith, none, c.no_tables.ensures)); wide = c.requires.1 }
 
 pub returns-then-own-ne0 : goal.returns-then-own-ne0
 returns-then-own-ne0 c =
-    let number = c.no_tables-then-own-ne0.ensures ∙ number-own _ _ (good c.before.before) c.if-own-ne0.true in record { number_value = number; tables = λ none. absurd (c.if-own-ne0.true (sym c.no_tables-then-own-ne0.ensures ∙ none)); wide = c.requires.1; }
+    let number = c.no_tables-then-own-ne0.ensures ∙ number-own _ _ (good c.before.before) c.if-own-ne0.true in record { number_value = number; tables = λ none. absurd (c.if-own-ne0.true (sym c.no_tables-then-own-ne0.ensures ∙ none)); wide = c.requires.1 }
 
 pub superiors_of-requires : goal.superiors_of-requires
 superiors_of-requires c =
@@ -72,14 +71,18 @@ overlap-count-requires c =
 
 pub returns-then-count-gt256 : goal.returns-then-count-gt256
 returns-then-count-gt256 c =
-    let number = c.no_tables-then-count-gt256.ensures ∙ number-many _ _ (good c.before.before.before.before.before.before.before.before.before.before.before) c.if-own-ne0.false _ _ _ (zones c.before.before) c.if-count-gt256.true in record { number_value = number; tables = λ none. absurd (omega (arith, none, c.no_tables-then-count-gt256.ensures)); wide = c.overlap-count.ensures.upper_bound.1; }
+    let number = c.no_tables-then-count-gt256.ensures ∙ number-many _ _ (good c.before.before.before.before.before.before.before.before.before.before.before) c.if-own-ne0.false _ _ _ (zones c.before.before) c.if-count-gt256.true in record { number_value = number; tables = λ none. absurd (omega (arith, none, c.no_tables-then-count-gt256.ensures)); wide = c.overlap-count.ensures.upper_bound.1 }
 
 pub returns : goal.returns
 returns c =
     let fits = counted _ (good c.before.before.before.before.before.before.before.before.before.before) in
-    let own = (zones c.before).few (omega arith) in record { number_value = number-few _ _ (good c.before.before.before.before.before.before.before.before.before.before) c.if-own-ne0.false _ _ _ (zones c.before) (omega arith); tables = λ _. record {
-          fits = record { bigs = fits.bigs; superiors = fits.superiors; zones = omega arith };
-          bigs = bigs c.before.before.before.before.before.before.before.before.before.before;
-          superiors = superiors c.before.before.before.before;
-          zones = own;
-        }; wide = c.overlap-count.ensures.upper_bound.1; }
+    let own = (zones c.before).few (omega arith) in record {
+      number_value = number-few _ _ (good c.before.before.before.before.before.before.before.before.before.before) c.if-own-ne0.false _ _ _ (zones c.before) (omega arith);
+      tables = λ _. record {
+        fits = record { bigs = fits.bigs; superiors = fits.superiors; zones = omega arith };
+        bigs = bigs c.before.before.before.before.before.before.before.before.before.before;
+        superiors = superiors c.before.before.before.before;
+        zones = own;
+      };
+      wide = c.overlap-count.ensures.upper_bound.1;
+    }
