@@ -8,8 +8,8 @@ ghost use Rattle.call_log.specs.Log.{spelled};
 ghost use Rattle.call_log.specs.Entries.{bad_at};
 ghost use Rattle.playback.specs.Replays.{Replays};
 
-use live::Live;
 use call_log::{LogEntry, Place};
+use live::Live;
 
 // What a replay leaves: where an entry of the log is bad, its place, and else an answer for each call, the chart behind them, and the bars of
 // the log in the first `bars` places.

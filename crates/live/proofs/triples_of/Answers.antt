@@ -1,10 +1,6 @@
 -- `live::triples_of` meets its contract. The invariant: the records of the first i classes. Assumes nothing.
-use Prim.Native.Nat.{◌≤◌, ◌-◌}
 use mathlib.Core.Path.{◌≡◌, refl}
-use mathlib.Core.List.{map}
-use lib.ListN.{length, take}
 use borrow.Author.Rules.{rules}
-use Rattle.rules.specs.Machine.{as_triple}
 use Rattle.live.proofs.Derives.{one_class_more}
 use Rattle.live.proofs.triples_of.Goals as goal
 
@@ -12,13 +8,12 @@ pub loop-i-init : goal.loop-i-init
 loop-i-init c = (search rules, refl, refl)
 
 pub loop-i-preserved : goal.loop-i-preserved
-loop-i-preserved c =
-    (
-      search rules,
-      search rules,
-      one_class_more c.loop-i.i c.loop-i.triples c.args.classes _ _ (search rules) (search rules) c.triple_of.ensures
-          c.loop-i.invariant.2,
-    )
+loop-i-preserved c = (
+  search rules,
+  search rules,
+  one_class_more c.loop-i.i c.loop-i.triples c.args.classes _ _ (search rules) (search rules) c.triple_of.ensures
+      c.loop-i.invariant.2,
+)
 
 pub returns : goal.returns
 returns c =

@@ -1,10 +1,8 @@
 use Prim.Native.Nat.{◌≤◌, ◌-◌}
-use mathlib.Core.Path.{◌≡◌, refl}
+use mathlib.Core.Path.{◌≡◌}
 use mathlib.Core.List.{map}
 use lib.ListN.{length, take}
-use borrow.Author.Rules.{rules}
 use Rattle.rules.specs.Machine.{as_triple}
-use Rattle.live.proofs.Derives.{one_class_more}
 use Rattle.live.proofs.triples_of.Given as goal
 
 abbrev pub invariant-loop-i : goal.invariant-loop-i

@@ -2,7 +2,6 @@
 use mathlib.Core.List.{[]}
 use lib.ListN.{get_or}
 use lib.Ieee.{nan}
-use borrow.Author.Rules.{rules}
 use Rattle.mark_hits.proofs.Anchors.{row-nowhere, row-priced}
 use Rattle.mark_hits.proofs.anchor_at.Goals as goal
 

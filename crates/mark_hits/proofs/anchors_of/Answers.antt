@@ -1,10 +1,7 @@
 -- `mark_hits::anchors_of` meets its contract. The invariant: the anchors among the first i bigs have rows. Assumes nothing.
-use Prim.Native.Nat.{◌-◌, ◌≤◌}
 use native.Mathlib.Omega.{arith}
 use mathlib.Core.Path.{sym, ◌∙◌}
-use borrow.Author.Rules.{rules}
-use Rattle.tables.specs.Rows.{Wide}
-use Rattle.mark_hits.proofs.Anchors.{AnchorsFound, found_none, found-missing, found-more, found_all}
+use Rattle.mark_hits.proofs.Anchors.{found_none, found-missing, found-more, found_all}
 use Rattle.mark_hits.proofs.anchors_of.Goals as goal
 
 pub loop-i-init : goal.loop-i-init
@@ -39,4 +36,4 @@ loop-i-preserved c =
 
 pub returns : goal.returns
 returns c =
-    let inv = c.loop-i.invariant in record { upper_bound = omega (arith, inv.0, inv.1); anchors_of = found_all c.args.side _ _ _ _ _ _ c.loop-i.from _ inv.6 inv.1 c.loop-i-test.false; }
+    let inv = c.loop-i.invariant in record { upper_bound = omega (arith, inv.0, inv.1); anchors_of = found_all c.args.side _ _ _ _ _ _ c.loop-i.from _ inv.6 inv.1 c.loop-i-test.false }

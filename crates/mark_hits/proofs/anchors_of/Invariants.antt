@@ -1,9 +1,6 @@
 use Prim.Native.Nat.{◌-◌, ◌≤◌}
-use native.Mathlib.Omega.{arith}
-use mathlib.Core.Path.{sym, ◌∙◌}
-use borrow.Author.Rules.{rules}
 use Rattle.tables.specs.Rows.{Wide}
-use Rattle.mark_hits.proofs.Anchors.{AnchorsFound, found_none, found-missing, found-more, found_all}
+use Rattle.mark_hits.proofs.Anchors.{AnchorsFound}
 use Rattle.mark_hits.proofs.anchors_of.Given as goal
 
 abbrev pub invariant-loop-i : goal.invariant-loop-i

@@ -1,15 +1,12 @@
 -- `mark_hits::first_behind` meets its contract. The invariant: no big before place k ends behind the bar, where the given place was one for
 -- the bar before. Assumes nothing.
-use Prim.Native.Nat.{◌-◌, ◌≤◌}
 use native.Mathlib.Omega.{arith}
 use mathlib.Core.Path.{sym, ◌∙◌}
-use borrow.Author.Rules.{rules}
-use Rattle.mark_hits.specs.Anchors.{FirstBehind}
 use Rattle.mark_hits.proofs.Anchors.{none_first, none-later, behind-nowhere, behind-soon}
 use Rattle.mark_hits.proofs.first_behind.Goals as goal
 
 pub returns-then-after-last : goal.returns-then-after-last
-returns-then-after-last c = record { upper_bound = omega arith; first_behind = λ l t h. none_first l _; }
+returns-then-after-last c = record { upper_bound = omega arith; first_behind = λ l t h. none_first l _ }
 
 pub loop-k-init : goal.loop-k-init
 loop-k-init c =
@@ -27,7 +24,7 @@ loop-k-preserved-in_default c =
 
 pub returns-then-is_behind : goal.returns-then-is_behind
 returns-then-is_behind c =
-    let inv = c.loop-k.invariant in record { upper_bound = inv.1; first_behind = inv.2; }
+    let inv = c.loop-k.invariant in record { upper_bound = inv.1; first_behind = inv.2 }
 
 pub loop-k-preserved : goal.loop-k-preserved
 loop-k-preserved c =
@@ -40,4 +37,4 @@ loop-k-preserved c =
     )
 
 pub returns : goal.returns
-returns c = record { upper_bound = c.loop-k.invariant.1; first_behind = c.loop-k.invariant.2; }
+returns c = record { upper_bound = c.loop-k.invariant.1; first_behind = c.loop-k.invariant.2 }

@@ -1,9 +1,5 @@
 use Prim.Native.Nat.{◌-◌, ◌≤◌}
-use native.Mathlib.Omega.{arith}
-use mathlib.Core.Path.{sym, ◌∙◌}
-use borrow.Author.Rules.{rules}
 use Rattle.mark_hits.specs.Anchors.{FirstBehind}
-use Rattle.mark_hits.proofs.Anchors.{none_first, none-later, behind-nowhere, behind-soon}
 use Rattle.mark_hits.proofs.first_behind.Given as goal
 
 abbrev pub invariant-loop-k : goal.invariant-loop-k

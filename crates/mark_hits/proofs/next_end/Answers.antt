@@ -1,13 +1,7 @@
 -- `mark_hits::next_end` meets its contract. The invariant: the ends of the bigs from place `from` on are those from place k on. Assumes nothing.
-use Prim.Native.Nat.{◌-◌, ◌≤◌}
 use native.Mathlib.Omega.{arith}
-use mathlib.Core.Path.{◌≡◌, refl, sym, ◌∙◌}
-use lib.ListN.{drop}
-use borrow.Author.Rules.{rules}
+use mathlib.Core.Path.{refl, sym, ◌∙◌}
 use borrow.Author.Tests.{not-true, not-false}
-use Rattle.rules.specs.Records.{Levels}
-use Rattle.tables.specs.Tables.{Bigs}
-use Rattle.mark_hits.specs.Anchors.{ends_in}
 use Rattle.mark_hits.proofs.Ends.{ends-over, ends-other, ends_nowhere, ends-soon, ends-here}
 use Rattle.mark_hits.proofs.next_end.Goals as goal
 
@@ -33,9 +27,12 @@ loop-k-preserved-in_default c =
 
 pub returns-then-is_behind : goal.returns-then-is_behind
 returns-then-is_behind c =
-    let inv = c.loop-k.invariant in record { later_end = (omega (arith, inv.0), omega (arith, c.loop-k-test.true), c.is_behind.ensures.1); next_end = λ l t. ends-here _ _ _ _ _ c.loop-k.k l t _ (inv.2 l t) c.loop-k-test.true _ _
+    let inv = c.loop-k.invariant in record {
+      later_end = (omega (arith, inv.0), omega (arith, c.loop-k-test.true), c.is_behind.ensures.1);
+      next_end = λ l t. ends-here _ _ _ _ _ c.loop-k.k l t _ (inv.2 l t) c.loop-k-test.true _ _
           (sym c.point_at.ensures ∙ c.in-At.is) _ c.way_at.ensures
-          (sym c.is_way.ensures ∙ not-false _ c.if-not-is_way.false-raw) (sym c.is_behind.ensures.0 ∙ c.if-is_behind.true); }
+          (sym c.is_way.ensures ∙ not-false _ c.if-not-is_way.false-raw) (sym c.is_behind.ensures.0 ∙ c.if-is_behind.true);
+    }
 
 pub loop-k-preserved : goal.loop-k-preserved
 loop-k-preserved c =
@@ -47,4 +44,4 @@ loop-k-preserved c =
     )
 
 pub returns : goal.returns
-returns c = record { later_end = tt; next_end = λ l t. ends-over _ _ _ _ _ c.loop-k.k l t _ (c.loop-k.invariant.2 l t) c.loop-k-test.false; }
+returns c = record { later_end = tt; next_end = λ l t. ends-over _ _ _ _ _ c.loop-k.k l t _ (c.loop-k.invariant.2 l t) c.loop-k-test.false }

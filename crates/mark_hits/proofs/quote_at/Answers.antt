@@ -1,5 +1,4 @@
 -- `mark_hits::quote_at` meets its contract. Assumes nothing.
-use borrow.Author.Rules.{rules}
 use Rattle.mark_hits.proofs.Quotes.{quote-outside, quote-inside}
 use Rattle.mark_hits.proofs.quote_at.Goals as goal
 

@@ -3,7 +3,6 @@ use native.Mathlib.Omega.{arith}
 use mathlib.Core.Path.{sym, ◌∙◌}
 use borrow.Author.Tests.{not-true, not-false}
 use Rattle.mark_hits.proofs.Quotes.{refuse-unequal, refuse-long, refuse-prices, refuse-none}
-use borrow.Author.Rules.{rules}
 use Rattle.mark_hits.proofs.quotes_refusal.Goals as goal
 
 pub returns-then-highs-lows : goal.returns-then-highs-lows

@@ -1,15 +1,11 @@
 use Prim.Native.Nat.{ℕ, ◌-◌, ◌<◌, ◌≤◌}
-use native.Mathlib.Omega.{arith}
-use mathlib.Core.Path.{◌≡◌, refl, sym, ◌∙◌}
+use mathlib.Core.Path.{◌≡◌}
 use mathlib.Core.Bool.{Bool}
 use lib.ListN.{drop}
-use borrow.Author.Rules.{rules}
-use borrow.Author.Tests.{leb-true, leb-false}
 use Rattle.rules.specs.Marks.{pair_ends}
 use Rattle.rules.specs.Records.{Levels}
 use Rattle.tables.specs.Tables.{Bigs}
 use Rattle.mark_scan.specs.Scan.{Limits}
-use Rattle.mark_scan.proofs.Pairs.{pairs-none, pairs-missing, pairs-over, pairs-at, pairs-skip}
 use Rattle.mark_scan.proofs.next_pair.Given as goal
 
 abbrev pub invariant-loop-k : goal.invariant-loop-k

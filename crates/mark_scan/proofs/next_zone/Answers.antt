@@ -1,8 +1,6 @@
 -- `mark_scan::next_zone` meets its contract. The invariant: the least start so far, or one of the zones from place i on, stops the scan. Assumes nothing.
-use Prim.Native.Nat.{◌-◌, ◌≤◌}
 use native.Mathlib.Omega.{arith}
-use Rattle.mark_scan.proofs.Stops.{ZonesLeft, zones-first, zones-next, zones-least, zones-none}
-use borrow.Author.Rules.{rules}
+use Rattle.mark_scan.proofs.Stops.{zones-first, zones-next, zones-least, zones-none}
 use Rattle.mark_scan.proofs.next_zone.Goals as goal
 
 pub loop-i-init : goal.loop-i-init

@@ -1,7 +1,5 @@
 use Prim.Native.Nat.{◌-◌, ◌≤◌}
-use native.Mathlib.Omega.{arith}
-use Rattle.mark_scan.proofs.Stops.{ZonesLeft, zones-first, zones-next, zones-least, zones-none}
-use borrow.Author.Rules.{rules}
+use Rattle.mark_scan.proofs.Stops.{ZonesLeft}
 use Rattle.mark_scan.proofs.next_zone.Given as goal
 
 abbrev pub invariant-loop-i : goal.invariant-loop-i

@@ -1,13 +1,7 @@
 -- `mark_scan::reversal` meets its contract. The invariant: the superiors from place i on are left to look at. Assumes nothing.
-use Prim.Native.Nat.{◌-◌}
 use native.Mathlib.Omega.{arith}
-use mathlib.Core.Path.{◌≡◌, refl}
-use lib.ListN.{drop}
-use Rattle.rules.specs.Records.{Levels}
-use Rattle.tables.specs.Tables.{Sups}
-use Rattle.mark_scan.specs.Scan.{reversal_in, limit_of}
+use mathlib.Core.Path.{refl}
 use Rattle.mark_scan.proofs.Stops.{reversal-none, reversal-here, reversal-pass}
-use borrow.Author.Rules.{rules}
 use Rattle.mark_scan.proofs.reversal.Goals as goal
 
 pub loop-i-init : goal.loop-i-init

@@ -1,12 +1,9 @@
 use Prim.Native.Nat.{◌-◌}
-use native.Mathlib.Omega.{arith}
-use mathlib.Core.Path.{◌≡◌, refl}
+use mathlib.Core.Path.{◌≡◌}
 use lib.ListN.{drop}
 use Rattle.rules.specs.Records.{Levels}
 use Rattle.tables.specs.Tables.{Sups}
 use Rattle.mark_scan.specs.Scan.{reversal_in, limit_of}
-use Rattle.mark_scan.proofs.Stops.{reversal-none, reversal-here, reversal-pass}
-use borrow.Author.Rules.{rules}
 use Rattle.mark_scan.proofs.reversal.Given as goal
 
 abbrev pub invariant-loop-i : goal.invariant-loop-i

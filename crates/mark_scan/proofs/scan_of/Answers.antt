@@ -3,7 +3,6 @@ use Prim.Native.Nat.{◌<◌}
 use native.Mathlib.Omega.{arith}
 use mathlib.Core.Path.{refl}
 use Rattle.mark_scan.proofs.Scans.{zone-scan}
-use borrow.Author.Rules.{rules}
 use Rattle.mark_scan.proofs.scan_of.Goals.{After-wide-owner, Start}
 use Rattle.mark_scan.proofs.scan_of.Goals as goal
 

@@ -1,11 +1,7 @@
 -- `mark_scan::scans_of` meets its contract. The invariant: the scans of the first i zones. Assumes nothing.
-use Prim.Native.Nat.{◌-◌, ◌≤◌}
 use native.Mathlib.Omega.{arith}
-use mathlib.Core.Path.{◌≡◌}
-use lib.ListN.{length, length-set}
-use Rattle.mark_scan.specs.Scan.{ScannedTo}
+use lib.ListN.{length-set}
 use Rattle.mark_scan.proofs.Scans.{scans-next, scans-all}
-use borrow.Author.Rules.{rules}
 use Rattle.mark_scan.proofs.scans_of.Goals as goal
 
 pub loop-i-init : goal.loop-i-init
@@ -21,4 +17,4 @@ loop-i-preserved c =
 
 pub returns : goal.returns
 returns c =
-    let inv = c.loop-i.invariant in record { scans_len = inv.1; scanned = scans-all _ _ _ _ _ c.loop-i.scans c.loop-i.i inv.2 c.loop-i-test.false; }
+    let inv = c.loop-i.invariant in record { scans_len = inv.1; scanned = scans-all _ _ _ _ _ c.loop-i.scans c.loop-i.i inv.2 c.loop-i-test.false }

@@ -1,10 +1,7 @@
 use Prim.Native.Nat.{◌-◌, ◌≤◌}
-use native.Mathlib.Omega.{arith}
 use mathlib.Core.Path.{◌≡◌}
-use lib.ListN.{length, length-set}
+use lib.ListN.{length}
 use Rattle.mark_scan.specs.Scan.{ScannedTo}
-use Rattle.mark_scan.proofs.Scans.{scans-next, scans-all}
-use borrow.Author.Rules.{rules}
 use Rattle.mark_scan.proofs.scans_of.Given as goal
 
 abbrev pub invariant-loop-i : goal.invariant-loop-i

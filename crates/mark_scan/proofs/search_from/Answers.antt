@@ -2,7 +2,6 @@
 use native.Mathlib.Omega.{arith}
 use mathlib.Core.Path.{refl, ap}
 use mathlib.Core.Logic.{inl, inr}
-use borrow.Author.Rules.{rules}
 use Rattle.mark_scan.specs.declared.Scan.{Scan}
 use Rattle.mark_scan.proofs.search_from.Goals as goal
 

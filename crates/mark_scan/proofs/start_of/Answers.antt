@@ -1,12 +1,7 @@
 -- `mark_scan::start_of` meets its contract. The invariant: the bigs from place k on are left to look at. Assumes nothing.
-use Prim.Native.Nat.{suc, ◌+◌, ◌-◌, ◌<◌, ◌≤◌}
+use Prim.Native.Nat.{suc, ◌<◌}
 use native.Mathlib.Omega.{arith}
-use mathlib.Core.Path.{◌≡◌, refl, sym, ◌∙◌}
-use lib.ListN.{drop}
-use borrow.Author.Rules.{rules}
-use Rattle.rules.specs.Records.{Levels}
-use Rattle.rules.specs.Marks.{leaving}
-use Rattle.tables.specs.Tables.{Bigs}
+use mathlib.Core.Path.{refl, sym, ◌∙◌}
 use Rattle.mark_scan.proofs.Pairs.{start-missing, start-here, start-pass, start_none}
 use Rattle.mark_scan.proofs.start_of.Goals.{In-loop-k}
 use Rattle.mark_scan.proofs.start_of.Goals as goal
@@ -29,7 +24,7 @@ loop-k-preserved-in_default c =
 pub returns-then-e-span : goal.returns-then-e-span
 returns-then-e-span c =
     let inv = c.loop-k.invariant in
-    let found = sym c.range_at.ensures ∙ c.in-Found.is in record { upper_bound = omega (arith, (within c.before.before.before.before).1); starts_at = λ l t. start-here _ _ _ _ _ c.loop-k.k l t _ (inv.3 l t) (within c.before.before.before.before).0 (within c.before.before.before.before).1 _ found c.if-e-span.true; }
+    let found = sym c.range_at.ensures ∙ c.in-Found.is in record { upper_bound = omega (arith, (within c.before.before.before.before).1); starts_at = λ l t. start-here _ _ _ _ _ c.loop-k.k l t _ (inv.3 l t) (within c.before.before.before.before).0 (within c.before.before.before.before).1 _ found c.if-e-span.true }
 
 pub loop-k-preserved : goal.loop-k-preserved
 loop-k-preserved c =
@@ -39,4 +34,4 @@ loop-k-preserved c =
 
 pub returns : goal.returns
 returns c =
-    let inv = c.loop-k.invariant in record { upper_bound = omega (arith, c.at_most.ensures); starts_at = λ l t. start_none _ _ _ _ _ c.loop-k.k l t _ (inv.3 l t) _ _ c.at_most-end.ensures c.loop-k-test.false c.at_most.ensures; }
+    let inv = c.loop-k.invariant in record { upper_bound = omega (arith, c.at_most.ensures); starts_at = λ l t. start_none _ _ _ _ _ c.loop-k.k l t _ (inv.3 l t) _ _ c.at_most-end.ensures c.loop-k-test.false c.at_most.ensures }

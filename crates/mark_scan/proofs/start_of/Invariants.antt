@@ -1,12 +1,9 @@
-use Prim.Native.Nat.{suc, ◌+◌, ◌-◌, ◌<◌, ◌≤◌}
-use native.Mathlib.Omega.{arith}
-use mathlib.Core.Path.{◌≡◌, refl, sym, ◌∙◌}
+use Prim.Native.Nat.{suc, ◌+◌, ◌-◌, ◌≤◌}
+use mathlib.Core.Path.{◌≡◌}
 use lib.ListN.{drop}
-use borrow.Author.Rules.{rules}
 use Rattle.rules.specs.Records.{Levels}
 use Rattle.rules.specs.Marks.{leaving}
 use Rattle.tables.specs.Tables.{Bigs}
-use Rattle.mark_scan.proofs.Pairs.{start-missing, start-here, start-pass, start_none}
 use Rattle.mark_scan.proofs.start_of.Given as goal
 
 abbrev pub invariant-loop-k : goal.invariant-loop-k

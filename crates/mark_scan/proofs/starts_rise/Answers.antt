@@ -1,15 +1,11 @@
 -- `mark_scan::starts_rise` meets its contract. The invariant: where no start bar fell so far, none of them is above the last. Assumes nothing.
-use Prim.Native.Nat.{◌-◌, ◌≤◌}
 use native.Mathlib.Omega.{arith}
-use mathlib.Core.Path.{◌≡◌}
-use mathlib.Core.Bool.{true}
 use mathlib.Core.List.{[]}
 use lib.Dec.{leb}
 use lib.ListN.{get_or}
 use borrow.Author.Tests.{leb-true}
 use Rattle.laws.proofs.Tests.{and_l, and_r}
-use Rattle.mark_scan.proofs.Stops.{Risen, risen_next}
-use borrow.Author.Rules.{rules}
+use Rattle.mark_scan.proofs.Stops.{risen_next}
 use Rattle.mark_scan.proofs.starts_rise.Goals as goal
 
 pub loop-i-init : goal.loop-i-init

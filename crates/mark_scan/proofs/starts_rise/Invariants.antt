@@ -1,14 +1,7 @@
 use Prim.Native.Nat.{◌-◌, ◌≤◌}
-use native.Mathlib.Omega.{arith}
 use mathlib.Core.Path.{◌≡◌}
 use mathlib.Core.Bool.{true}
-use mathlib.Core.List.{[]}
-use lib.Dec.{leb}
-use lib.ListN.{get_or}
-use borrow.Author.Tests.{leb-true}
-use Rattle.laws.proofs.Tests.{and_l, and_r}
-use Rattle.mark_scan.proofs.Stops.{Risen, risen_next}
-use borrow.Author.Rules.{rules}
+use Rattle.mark_scan.proofs.Stops.{Risen}
 use Rattle.mark_scan.proofs.starts_rise.Given as goal
 
 abbrev pub invariant-loop-i : goal.invariant-loop-i

@@ -1,9 +1,7 @@
 -- `mark_scan::zone_behind` meets its contract. The invariant: the zones from place i on are left to look at. Assumes nothing.
-use Prim.Native.Nat.{◌-◌}
 use native.Mathlib.Omega.{arith}
 use mathlib.Core.Path.{refl}
-use Rattle.mark_scan.proofs.Stops.{ZonesFrom, behind-none, behind_here, behind-pass}
-use borrow.Author.Rules.{rules}
+use Rattle.mark_scan.proofs.Stops.{behind-none, behind_here, behind-pass}
 use Rattle.mark_scan.proofs.zone_behind.Goals as goal
 
 pub loop-i-init : goal.loop-i-init

@@ -1,8 +1,5 @@
 use Prim.Native.Nat.{◌-◌}
-use native.Mathlib.Omega.{arith}
-use mathlib.Core.Path.{refl}
-use Rattle.mark_scan.proofs.Stops.{ZonesFrom, behind-none, behind_here, behind-pass}
-use borrow.Author.Rules.{rules}
+use Rattle.mark_scan.proofs.Stops.{ZonesFrom}
 use Rattle.mark_scan.proofs.zone_behind.Given as goal
 
 abbrev pub invariant-loop-i : goal.invariant-loop-i

@@ -1,7 +1,6 @@
 -- `mark_scan::zone_limit` meets its contract. Assumes nothing.
 use Rattle.mark_scan.specs.Scan.{StartsRise}
 use Rattle.mark_scan.proofs.Stops.{behind-all}
-use borrow.Author.Rules.{rules}
 use Rattle.mark_scan.proofs.zone_limit.Goals.{Start, Then-zb-at}
 use Rattle.mark_scan.proofs.zone_limit.Goals as goal
 

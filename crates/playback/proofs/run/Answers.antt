@@ -1,16 +1,10 @@
 -- `playback::run` meets its contract. The invariant: the entries in front of the place are done, and those behind it are left. Assumes nothing.
-use Prim.Native.Nat.{◌-◌, ◌<◌}
 use native.Mathlib.Omega.{arith}
-use mathlib.Core.Path.{◌≡◌, sym, ap, ◌∙◌}
-use mathlib.Core.Option.{some}
-use lib.ListN.{length}
+use mathlib.Core.Path.{sym, ap, ◌∙◌}
 use borrow.Author.Rules.{rules}
 use Rattle.laws.proofs.Tests.{none-some}
-use Rattle.rules.specs.Machine.{call_of}
-use Rattle.call_log.specs.Log.{call, bar}
 use Rattle.call_log.specs.Entries.{entry_of}
-use Rattle.call_log.proofs.Steps.{Stepped}
-use Rattle.playback.proofs.Turns.{Underway, begins, stepped, room, bar-room, further-call, further-bar, finished}
+use Rattle.playback.proofs.Turns.{begins, stepped, room, bar-room, further-call, further-bar, finished}
 use Rattle.playback.proofs.run.Goals as goal
 
 pub loop-at-init : goal.loop-at-init
@@ -71,4 +65,3 @@ loop-at-preserved c =
 pub returns : goal.returns
 returns c =
     finished _ _ _ _ _ _ _ _ _ c.loop-at.invariant c.loop-at-test.false c.new-chart.ensures
-

@@ -1,7 +1,6 @@
 -- `three_n::bigseg_3n_marks_all_zhongshu` meets its contract. Assumes nothing.
 use native.Mathlib.Omega.{arith}
 use mathlib.Core.Path.{◌≡◌, refl, sym, ◌∙◌}
-use borrow.Author.Rules.{rules}
 use Rattle.rules.specs.Records.{levels_of, Quotes}
 use Rattle.zones.proofs.Call.{own_none}
 use Rattle.mark_scan.proofs.Scans.{tables_owners}
@@ -38,7 +37,9 @@ rows_by-requires c =
     let t = c.tables_of-begun.ensures.tables c.if-begun-ne0.false in
     let s = c.scans_of.ensures.scanned _ _ t in
     let fit = quotes_fit _ _ (quotes-good c.args.chart quotes _ c.own_number-own.ensures none) in
-    let room = c.thirds_of-found.ensures.all_bound in record { fits = (t.fits, fit.0, fit.1, room.1.0); ready = (
+    let room = c.thirds_of-found.ensures.all_bound in record {
+      fits = (t.fits, fit.0, fit.1, room.1.0);
+      ready = (
         levels_of c.args.chart,
         record {
           tables = s;
@@ -46,7 +47,8 @@ rows_by-requires c =
           thirds = marked-keys _ _ _ _ _ (c.thirds_of-found.ensures.gathers_thirds _ _ t s) (omega (arith, room.0, room.1.0));
           inside = ends-inside _ _ (ends-good c.args.chart quotes _ c.own_number-own.ensures none) fit.2;
         },
-      ); }
+      );
+    }
 
 pub returns : goal.returns
 returns c =
@@ -57,9 +59,9 @@ returns c =
     let fit = quotes_fit _ _ (quotes-good c.args.chart quotes _ c.own_number-own.ensures none) in
     let room = c.thirds_of-found.ensures.all_bound in
     c.rows_by.ensures (levels_of c.args.chart) (record {
-          tables = s;
-          few = room.0;
-          thirds = marked-keys _ _ _ _ _ (c.thirds_of-found.ensures.gathers_thirds _ _ t s) (omega (arith, room.0, room.1.0));
-          inside = ends-inside _ _ (ends-good c.args.chart quotes _ c.own_number-own.ensures none) fit.2;
-        })
+      tables = s;
+      few = room.0;
+      thirds = marked-keys _ _ _ _ _ (c.thirds_of-found.ensures.gathers_thirds _ _ t s) (omega (arith, room.0, room.1.0));
+      inside = ends-inside _ _ (ends-good c.args.chart quotes _ c.own_number-own.ensures none) fit.2;
+    })
     ∙ (n-by _ quotes _ c.own_number-own.ensures _ c.tables_of-begun.ensures.number_value).1 c.if-begun-ne0.false

@@ -1,13 +1,12 @@
 -- `three_n::ends_outside` meets its contract. The invariant: what is left of the strokes has the answer of all. Assumes nothing.
-use Prim.Native.Nat.{◌≤◌, ◌-◌}
+use Prim.Native.Nat.{◌≤◌}
 use native.Mathlib.Omega.{arith}
 use mathlib.Core.Path.{◌≡◌, refl, sym, ◌∙◌}
-use lib.ListN.{length, take, drop}
+use lib.ListN.{length}
 use lib.Dec.{leb}
 use borrow.Author.Tests.{le-leb, lt-leb}
 use borrow.Author.Rules.{rules}
 use Rattle.chart.specs.declared.Stroke.{Stroke}
-use Rattle.rules.specs.Lists.{any}
 use Rattle.levels.proofs.Tests.{any_here, any-later, any_none}
 use Rattle.levels.proofs.Read.{no_stroke}
 use Rattle.three_n.proofs.ends_outside.Goals.{Start}
@@ -25,12 +24,11 @@ returns-then-len-s c =
     (le-leb _ _ c.if-len-s.true)) ∙ c.loop-i.invariant.1
 
 pub loop-i-preserved : goal.loop-i-preserved
-loop-i-preserved c =
-    (
-      omega (arith, c.loop-i-test.true),
-      sym (any-later (λ (s : Stroke). leb _ s.end_bar) _ c.loop-i.i _ (long c.before.before.before.before.before) no_stroke c.loop-i-test.true
-          (lt-leb _ _ c.if-len-s.false)) ∙ c.loop-i.invariant.1,
-    )
+loop-i-preserved c = (
+  omega (arith, c.loop-i-test.true),
+  sym (any-later (λ (s : Stroke). leb _ s.end_bar) _ c.loop-i.i _ (long c.before.before.before.before.before) no_stroke c.loop-i-test.true
+      (lt-leb _ _ c.if-len-s.false)) ∙ c.loop-i.invariant.1,
+)
 
 pub returns : goal.returns
 returns c =

@@ -1,14 +1,9 @@
 use Prim.Native.Nat.{◌≤◌, ◌-◌}
-use native.Mathlib.Omega.{arith}
-use mathlib.Core.Path.{◌≡◌, refl, sym, ◌∙◌}
-use lib.ListN.{length, take, drop}
+use mathlib.Core.Path.{◌≡◌}
+use lib.ListN.{take, drop}
 use lib.Dec.{leb}
-use borrow.Author.Tests.{le-leb, lt-leb}
-use borrow.Author.Rules.{rules}
 use Rattle.chart.specs.declared.Stroke.{Stroke}
 use Rattle.rules.specs.Lists.{any}
-use Rattle.levels.proofs.Tests.{any_here, any-later, any_none}
-use Rattle.levels.proofs.Read.{no_stroke}
 use Rattle.three_n.proofs.ends_outside.Given as goal
 
 abbrev pub invariant-loop-i : goal.invariant-loop-i

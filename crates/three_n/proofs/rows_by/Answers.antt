@@ -1,7 +1,6 @@
 -- `three_n::rows_by` meets its contract. Assumes nothing.
 use native.Mathlib.Omega.{arith}
 use mathlib.Core.Path.{ap, ◌∙◌}
-use borrow.Author.Rules.{rules}
 use Rattle.rules.specs.Answer.{given}
 use Rattle.laws.specs.Lists.{end_bars}
 use Rattle.mark_rows.specs.Rows.{Room}
@@ -15,7 +14,7 @@ superior_rows-count-requires c =
     let room : Room (end_bars c.requires.ready.0) c.args.keys.now c.args.zeros =
     thirds-room c.requires.ready.0 _ _ _ c.requires.ready.1.thirds
     (omega (arith, c.requires.ready.1.tables.bigs.count, c.requires.fits.0.bigs)) c.requires.fits.1 c.requires.ready.1.inside in
-    record { fits = (c.requires.fits.0, omega (arith, c.requires.fits.3), omega arith); scanned = (c.requires.ready.0, c.requires.ready.1.tables, room); }
+    record { fits = (c.requires.fits.0, omega (arith, c.requires.fits.3), omega arith); scanned = (c.requires.ready.0, c.requires.ready.1.tables, room) }
 
 pub anchor_limit-limit-requires : goal.anchor_limit-limit-requires
 anchor_limit-limit-requires c =
@@ -30,7 +29,7 @@ anchor_rows-all-requires c =
     (omega (arith, c.requires.ready.1.tables.bigs.count, c.requires.fits.0.bigs)) c.requires.fits.1 c.requires.ready.1.inside in
     let ready = c.requires.ready.1 in
     let side = c.side_of-side.ensures.bigs_value in
-    let grown = c.superior_rows-count.ensures.grown in record { anchors_le_bigs = (side.1, omega (arith, side.0, c.requires.fits.0.bigs), omega (arith, grown.long, c.requires.fits.3), omega (arith, grown.wide)); has_room = (c.requires.ready.0, bigs_by _ _ _ _ _ side.0 ready.tables.bigs, c.superior_rows-count.ensures.keeps_ends _ ready.tables room); }
+    let grown = c.superior_rows-count.ensures.grown in record { anchors_le_bigs = (side.1, omega (arith, side.0, c.requires.fits.0.bigs), omega (arith, grown.long, c.requires.fits.3), omega (arith, grown.wide)); has_room = (c.requires.ready.0, bigs_by _ _ _ _ _ side.0 ready.tables.bigs, c.superior_rows-count.ensures.keeps_ends _ ready.tables room) }
 
 pub rows_of-requires : goal.rows_of-requires
 rows_of-requires c =
@@ -43,7 +42,7 @@ rows_of-requires c =
     let grown = c.anchor_rows-all.ensures.grown in
     let bigs = bigs_by _ _ _ _ _ c.side_of-side.ensures.bigs_value.0 ready.tables.bigs in
     let all = c.anchor_rows-all.ensures.keeps_ends _ bigs (c.superior_rows-count.ensures.keeps_ends _ ready.tables room) in
-    let most = room_512 all (omega (arith, grown.long, before.long, c.requires.fits.3)) in record { n_bound = (most, omega (arith, most, grown.long, before.long, c.requires.fits.3), omega (arith, most, grown.wide, before.wide), c.requires.fits.1); all = room_bars all ready.inside; }
+    let most = room_512 all (omega (arith, grown.long, before.long, c.requires.fits.3)) in record { n_bound = (most, omega (arith, most, grown.long, before.long, c.requires.fits.3), omega (arith, most, grown.wide, before.wide), c.requires.fits.1); all = room_bars all ready.inside }
 
 pub returns : goal.returns
 returns c l ready =

@@ -1,6 +1,5 @@
 -- `live::Live::first_number` meets its contract. Assumes nothing.
 use mathlib.Core.Path.{sym, ◌∙◌}
-use borrow.Author.Rules.{rules}
 use Rattle.rules.specs.Refusals.{refuse}
 use Rattle.live.proofs.Live.first_number.Goals as goal
 

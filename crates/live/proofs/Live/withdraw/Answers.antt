@@ -1,7 +1,6 @@
 -- `live::Live::withdraw` meets its contract. Assumes nothing.
 use mathlib.Core.Logic.{inl, inr}
 use mathlib.Core.Path.{◌≡◌, sym, ◌∙◌}
-use borrow.Author.Rules.{rules}
 use Rattle.rules.specs.Machine.{withdraw, refusal}
 use Rattle.rules.specs.Live.{live_refusal}
 use Rattle.laws.proofs.Answers.{room}
