@@ -29,7 +29,7 @@ pub returns-in-Withdraw : goal.returns-in-Withdraw
 returns-in-Withdraw c = known _ _ _ _ _ (ap call_of c.in-Withdraw.is) c.withdraw.ensures
 
 pub returns-in-DeriveBigs : goal.returns-in-DeriveBigs
-returns-in-DeriveBigs c = known _ _ _ _ _ (ap call_of c.in-DeriveBigs.is) c.derive_bigs.ensures
+returns-in-DeriveBigs c = known _ _ _ _ _ (ap call_of c.in-DeriveBigs.is) (search rules)
 
 pub returns-in-DeriveSuperiors : goal.returns-in-DeriveSuperiors
-returns-in-DeriveSuperiors c = known _ _ _ _ _ (ap call_of c.in-DeriveSuperiors.is) c.derive_superiors.ensures
+returns-in-DeriveSuperiors c = known _ _ _ _ _ (ap call_of c.in-DeriveSuperiors.is) (search rules)
