@@ -2,7 +2,6 @@
 
 #![tactic(auto)]
 
-
 ghost use Rattle.std.specs.Prelude.{◌≡◌, false, ◌≤◌, take};
 ghost use Rattle.rules.specs.Answer.{is_refused};
 ghost use Rattle.rules.specs.Records.{levels_of};
