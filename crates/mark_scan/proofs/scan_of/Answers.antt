@@ -16,18 +16,6 @@ below c = omega (arith, c.wide-owner.ensures.0, c.requires.owners_below.0 c.args
 few : (c : After-wide-owner) → c.wide-owner.result < 256
 few c = omega (arith, below c, c.requires.fits.0.superiors)
 
--- CONVERT lost goal bounds-1-way
--- index-1-way : tie.Need-bounds-1-way
--- index-1-way c = omega (arith, few c.before)
-
--- CONVERT lost goal bounds-1-wide-2
--- index-1-wide-2 : tie.Need-bounds-1-wide-2
--- index-1-wide-2 c = omega (arith, few c.before.before)
-
--- CONVERT lost goal bounds-1-wide-3
--- index-1-wide-3 : tie.Need-bounds-1-wide-3
--- index-1-wide-3 c = omega (arith, few c.before.before.before.before)
-
 pub returns : goal.returns
 returns c =
     let pre = c.requires in
