@@ -1,6 +1,7 @@
 -- `live::Live::call` meets its contract. Assumes nothing.
 use Prim.Native.Nat.{ℕ}
 use mathlib.Core.Path.{◌≡◌, sym, ap, subst}
+use borrow.Author.Rules.{rules}
 use Rattle.rules.specs.Machine.{Call, call_of}
 use Rattle.live.specs.declared.Live.{Live}
 use Rattle.live.specs.Did.{Did}
