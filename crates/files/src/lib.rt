@@ -42,8 +42,8 @@ pub fn read_full<R: Read>(reader: &mut R, buffer: &mut [u8]) -> usize
     done
 }
 
-// Puts the first bytes of the file with a name into the buffer, as many as it holds, and gives their number. A name is text: a file whose name
-// is none can't be opened.
+// Puts the first bytes of the file with a name into the buffer, as many as it holds, and gives their number. std opens files by names that are
+// text alone, so a name that is not UTF-8 is that of a file that can't be opened.
 pub fn read_file<R: Files>(rt: &R, name: &[u8], buffer: &mut [u8]) -> usize
     ensures in_bounds { result ≤ length buffer.new }
     ensures count { result ≡ length (take result buffer.new) }
