@@ -20,7 +20,7 @@ returns-then-cut c =
 
 pub returns-then-full : goal.returns-then-full
 returns-then-full c =
-    head-full _ _ c.if-s-lt2.false _ c.mark_of.ensures _ c.in-Mark.is _ c.width_of.ensures c.if-cut.false-raw
+    head-full _ _ c.if-s-lt2.false _ c.mark_of.ensures _ c.in-Mark.is _ c.width_of.ensures (search rules)
     (sym c.is_full-full.ensures ∙ c.if-full.true)
 
 pub checked_record-requires : goal.checked_record-requires
