@@ -115,9 +115,9 @@ fn at_most(bytes: usize, places: usize) -> usize
 // Puts the bars of an accepted file into the slices, each at its number. The scan has tested them.
 fn fill_bars(bytes: &[u8], highs: &mut [f64], lows: &mut [f64])
     requires { length highs.old ≡ length lows.old }
-    ensures { (bs : List Bar) → read_bars (length highs.entry.now) bytes.now ≡ given bs
-        → record { highs = highs.exit.now; lows = lows.new }
-        ≡ foldl placed (record { highs = highs.entry.now; lows = lows.old }) bs }
+    ensures { (bs : List Bar) → read_bars (length highs.old) bytes.now ≡ given bs
+        → record { highs = highs.new; lows = lows.new }
+        ≡ foldl placed (record { highs = highs.old; lows = lows.old }) bs }
 {
     let count = at_most(bytes.len(), highs.len());
     let mut bars = 0usize;
@@ -134,10 +134,10 @@ fn fill_bars(bytes: &[u8], highs: &mut [f64], lows: &mut [f64])
 // slices as they were.
 pub fn read_bars(bytes: &[u8], highs: &mut [f64], lows: &mut [f64]) -> BarsRead
     ensures bars_value { count_answer result.number result.place result.bars
-        ≡ bar_count (read_bars_call (record { highs = highs.entry.now; lows = lows.old }) bytes.now) }
-    ensures lows_after { record { highs = highs.exit.now; lows = lows.new }
-        ≡ bars_after (read_bars_call (record { highs = highs.entry.now; lows = lows.old }) bytes.now)
-        (record { highs = highs.entry.now; lows = lows.old }) }
+        ≡ bar_count (read_bars_call (record { highs = highs.old; lows = lows.old }) bytes.now) }
+    ensures lows_after { record { highs = highs.new; lows = lows.new }
+        ≡ bars_after (read_bars_call (record { highs = highs.old; lows = lows.old }) bytes.now)
+        (record { highs = highs.old; lows = lows.old }) }
 {
     if highs.len() != lows.len() || 65536 < highs.len() {
         return BarsRead {

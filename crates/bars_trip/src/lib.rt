@@ -17,7 +17,7 @@ pub fn write_and_read_bars(
     new_highs: &mut [f64],
     new_lows: &mut [f64],
 ) -> BarsRead
-    ensures { let bars : Quotes = record { highs = highs.entry.now; lows = lows.now } in
+    ensures { let bars : Quotes = record { highs = highs.now; lows = lows.now } in
         let old : Quotes = record { highs = new_highs.old; lows = new_lows.old } in
         let new : Quotes = record { highs = new_highs.new; lows = new_lows.new } in
         Tripped bars buffer.old old (count_answer result.number result.place result.bars) new buffer.new }

@@ -42,8 +42,8 @@ fn put_bars(highs: &[f64], lows: &[f64], buffer: &mut [u8]) -> usize
     requires highs_len_bound { length highs.now ≤ 65536 }
     requires highs_value { (all_prices highs.now ≡ true) × (all_prices lows.now ≡ true) }
     requires lows_in_bounds { length (bars_written (record { highs = highs.now; lows = lows.now })) ≤ length buffer.old }
-    ensures value { result ≡ length (bars_written (record { highs = highs.entry.now; lows = lows.now })) }
-    ensures buffer_after { buffer.new ≡ fill (bars_written (record { highs = highs.entry.now; lows = lows.now })) buffer.old }
+    ensures value { result ≡ length (bars_written (record { highs = highs.now; lows = lows.now })) }
+    ensures buffer_after { buffer.new ≡ fill (bars_written (record { highs = highs.now; lows = lows.now })) buffer.old }
 {
     let mut end = 0usize;
     let mut i = 0usize;
@@ -59,7 +59,7 @@ fn put_bars(highs: &[f64], lows: &[f64], buffer: &mut [u8]) -> usize
 
 // Whether the slices are unequal or above 65,536.
 fn bad_slices(highs: &[f64], lows: &[f64]) -> bool
-    ensures { result ≡ bad_slices (record { highs = highs.entry.now; lows = lows.now }) }
+    ensures { result ≡ bad_slices (record { highs = highs.now; lows = lows.now }) }
 {
     if highs.len() != lows.len() {
         return true;
@@ -69,7 +69,7 @@ fn bad_slices(highs: &[f64], lows: &[f64]) -> bool
 
 // Whether some high or low is no price.
 fn bad_quotes(highs: &[f64], lows: &[f64]) -> bool
-    ensures { result ≡ bad_quotes (record { highs = highs.entry.now; lows = lows.now }) }
+    ensures { result ≡ bad_quotes (record { highs = highs.now; lows = lows.now }) }
 {
     if price::all_prices(highs) {
         return !price::all_prices(lows);
@@ -86,7 +86,7 @@ fn too_short(room: usize, bars: usize) -> bool
 
 // 8 slices unequal or above 65,536; 1 in either slice; 3 buffer too short.
 fn refusal(highs: &[f64], lows: &[f64], buffer: &[u8]) -> u8
-    ensures { result ≡ write_bars_refusal (record { highs = highs.entry.now; lows = lows.now }) buffer.now }
+    ensures { result ≡ write_bars_refusal (record { highs = highs.now; lows = lows.now }) buffer.now }
 {
     if bad_slices(highs, lows) {
         return 8;
@@ -112,8 +112,8 @@ pub struct Written {
 // Writes the bars: 8 slices unequal or above 65,536; 1 in either slice; 3 buffer too short. A refused writing leaves the buffer as it was.
 pub fn write_bars(highs: &[f64], lows: &[f64], buffer: &mut [u8]) -> Written
     ensures count_value { answered result.number result.count
-        ≡ write_bars_call (record { highs = highs.entry.now; lows = lows.now }) buffer.old }
-    ensures buffer_after { buffer.new ≡ bars_buffer_after (record { highs = highs.entry.now; lows = lows.now }) buffer.old }
+        ≡ write_bars_call (record { highs = highs.now; lows = lows.now }) buffer.old }
+    ensures buffer_after { buffer.new ≡ bars_buffer_after (record { highs = highs.now; lows = lows.now }) buffer.old }
     ensures count_value_2 { (result.number ≡ 0 → ⊥) → result.count ≡ 0 }
 {
     let number = refusal(highs, lows, &buffer[..]);

@@ -4,7 +4,8 @@
 
 ghost use Rattle.std.specs.Prelude.{◌≡◌, map, ◌≤◌, take};
 ghost use Rattle.rules.specs.Refusals.{refuse, bad_live};
-ghost use Rattle.rules.specs.Machine.{add_stroke, add_segment, add_big, add_superior, lengthen, withdraw, derive_bigs, derive_superiors, call_of, as_triple, count_up};
+ghost use Rattle.rules.specs.Machine.{add_stroke, add_segment, add_big, add_superior, lengthen, withdraw};
+ghost use Rattle.rules.specs.Machine.{derive_bigs, derive_superiors, call_of, as_triple, count_up};
 ghost use Rattle.live.specs.Did.{data_of, Nothing, Did};
 ghost use Rattle.live.specs.Steps.{Accepts, Steps, Renews};
 

@@ -104,7 +104,7 @@ fn hit_rows(
 ) -> usize
     requires bigs_bound { (hits.bigs ≤ 256) × (513 ≤ length keys.old) × (513 ≤ length orders.old) }
     requires has_room { HasRoom hits.bigs bars.now prices.now n keys.old }
-    ensures hit_rows { HitRows bars.now prices.now (record { highs = highs.entry.now; lows = lows.now }) hits n
+    ensures hit_rows { HitRows bars.now prices.now (record { highs = highs.now; lows = lows.now }) hits n
         keys.old orders.old result keys.new orders.new }
     ensures keeps_ends { KeepsEnds (λ (c : Levels). Bigs c hits.bigs bars.now prices.now) keys.old n keys.new result }
     ensures grown { Grown n keys.old orders.old result keys.new orders.new }
@@ -149,7 +149,7 @@ pub fn anchor_rows(
 ) -> usize
     requires anchors_le_bigs { (side.anchors ≤ side.bigs) × (side.bigs ≤ 256) × (513 ≤ length keys.old) × (513 ≤ length orders.old) }
     requires has_room { HasRoom side.bigs bars.now prices.now n keys.old }
-    ensures anchor_rows { AnchorRows bars.now prices.now (record { highs = highs.entry.now; lows = lows.now }) side limit n
+    ensures anchor_rows { AnchorRows bars.now prices.now (record { highs = highs.now; lows = lows.now }) side limit n
         keys.old orders.old result keys.new orders.new }
     ensures keeps_ends { KeepsEnds (λ (c : Levels). Bigs c side.bigs bars.now prices.now) keys.old n keys.new result }
     ensures grown { Grown n keys.old orders.old result keys.new orders.new }

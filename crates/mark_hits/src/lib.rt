@@ -27,7 +27,7 @@ pub enum Quote {
 
 // The low for buys, the high for sells.
 pub fn quote_at(highs: &[f64], lows: &[f64], buy: bool, bar: usize) -> Quote
-    ensures { quote_of result ≡ quote (record { highs = highs.entry.now; lows = lows.now }) buy bar }
+    ensures { quote_of result ≡ quote (record { highs = highs.now; lows = lows.now }) buy bar }
 {
     if buy {
         if lows.len() <= bar {
@@ -43,7 +43,7 @@ pub fn quote_at(highs: &[f64], lows: &[f64], buy: bool, bar: usize) -> Quote
 
 // 8 slices of unequal length or above 65,536; 1 in either slice.
 pub fn quotes_refusal(highs: &[f64], lows: &[f64]) -> u8
-    ensures { result ≡ quotes_refusal (record { highs = highs.entry.now; lows = lows.now }) 0 }
+    ensures { result ≡ quotes_refusal (record { highs = highs.now; lows = lows.now }) 0 }
 {
     if highs.len() != lows.len() {
         return 8;
@@ -78,8 +78,8 @@ fn beyond(buy: bool, x: f64, p: f64) -> bool
 
 // The hit at a bar, if it is one. A bar outside the slice is no hit.
 pub fn hit_at(highs: &[f64], lows: &[f64], buy: bool, p: f64, bar: usize) -> Hit
-    ensures lent_price { LentPrice (record { highs = highs.entry.now; lows = lows.now }) buy result }
-    ensures bar_value { find (beats (record { highs = highs.entry.now; lows = lows.now }) buy p) (bar ∷ []) ≡ hit_bar result }
+    ensures lent_price { LentPrice (record { highs = highs.now; lows = lows.now }) buy result }
+    ensures bar_value { find (beats (record { highs = highs.now; lows = lows.now }) buy p) (bar ∷ []) ≡ hit_bar result }
 {
     let quote = quote_at(highs, lows, buy, bar);
     let Quote::At(x) = quote else {

@@ -278,7 +278,7 @@ pub struct NRows {
 // The low for buys, the high for sells, at a bar inside the slices.
 fn price_at(highs: &[f64], lows: &[f64], buy: bool, bar: usize) -> f64
     requires { (bar < length highs.now) × (bar < length lows.now) }
-    ensures { result ≡ price_at (record { highs = highs.entry.now; lows = lows.now }) buy bar }
+    ensures { result ≡ price_at (record { highs = highs.now; lows = lows.now }) buy bar }
 {
     if buy {
         return lows[bar];
@@ -289,7 +289,7 @@ fn price_at(highs: &[f64], lows: &[f64], buy: bool, bar: usize) -> f64
 // The mark of a row.
 fn row_of(key: u32, order: u32, highs: &[f64], lows: &[f64]) -> NMark
     requires { (length highs.now ≤ 0x1_0000) × (bar_in key < length highs.now) × (bar_in key < length lows.now) }
-    ensures { result ≡ mark_in (record { highs = highs.entry.now; lows = lows.now }) key order }
+    ensures { result ≡ mark_in (record { highs = highs.now; lows = lows.now }) key order }
 {
     let bar = key / 2;
     let buy = key % 2 == 1;
@@ -307,7 +307,7 @@ pub fn rows_of(keys: &[u32], orders: &[u32], n: usize, highs: &[f64], lows: &[f6
     requires n_bound { (n ≤ 512) × (n ≤ length keys.now) × (n ≤ length orders.now) × (length highs.now ≤ 0x1_0000) }
     requires all { All (λ (k : ℕ). (bar_in k < length highs.now) × (bar_in k < length lows.now)) (take n keys.now) }
     ensures { rows_answer result.number result.count result.rows
-        ≡ given (marks_in (record { highs = highs.entry.now; lows = lows.now }) (take n keys.now) (take n orders.now)) }
+        ≡ given (marks_in (record { highs = highs.now; lows = lows.now }) (take n keys.now) (take n orders.now)) }
 {
     let none = NMark {
         bar_index: 0,

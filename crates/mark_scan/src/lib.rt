@@ -2,7 +2,8 @@
 
 #![tactic(auto)]
 
-ghost use Rattle.std.specs.Prelude.{◌≡◌, true, cond, not, ◌&&◌, List, [], ◌+◌, ◌-◌, ◌%◌, ◌≤◌, ◌<◌, min, length, get_or, drop, eqb, leb, ltb, Float};
+ghost use Rattle.std.specs.Prelude.{◌≡◌, true, cond, not, ◌&&◌, List, [], ◌+◌, ◌-◌, ◌%◌};
+ghost use Rattle.std.specs.Prelude.{◌≤◌, ◌<◌, min, length, get_or, drop, eqb, leb, ltb, Float};
 ghost use Rattle.rules.specs.Records.{Levels};
 ghost use Rattle.tables.specs.Tables.{Sups, Fits, Tables};
 ghost use Rattle.mark_scan.specs.Scan.{NextZone, StartsRise, OwnersBelow, reversal_in, limit_of, Later, NextPair, StartsAt, scan_in};

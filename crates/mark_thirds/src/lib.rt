@@ -79,8 +79,8 @@ fn zone_hit(
     lows: &[f64],
 ) -> Hit
     requires { m ≤ 256 }
-    ensures lent_price { LentPrice (record { highs = highs.entry.now; lows = lows.now }) (is_up scan.direction) result }
-    ensures zone_hit { ZoneHit m bars.now prices.now scan p (record { highs = highs.entry.now; lows = lows.now }) result }
+    ensures lent_price { LentPrice (record { highs = highs.now; lows = lows.now }) (is_up scan.direction) result }
+    ensures zone_hit { ZoneHit m bars.now prices.now scan p (record { highs = highs.now; lows = lows.now }) result }
 {
     let buy = scan.direction == 1;
     let mut at = scan.from as usize;
@@ -122,9 +122,9 @@ fn anchor_hit(
     lows: &[f64],
 ) -> Hit
     requires { side.bigs ≤ 256 }
-    ensures lent_price { LentPrice (record { highs = highs.entry.now; lows = lows.now }) side.buy result }
+    ensures lent_price { LentPrice (record { highs = highs.now; lows = lows.now }) side.buy result }
     ensures anchor_hit { AnchorHit side bars.now prices.now bar from p
-        (record { highs = highs.entry.now; lows = lows.now }) result }
+        (record { highs = highs.now; lows = lows.now }) result }
 {
     let mut k = from;
     while k < side.bigs {
@@ -155,7 +155,7 @@ fn anchor_marks(
     requires found_bound { (found ≤ 256) × (side.anchors ≤ side.bigs) × (side.bigs ≤ 256) }
     requires highs_len_bound { (length highs.now ≤ 0x1_0000) × (length lows.now ≤ 0x1_0000) × Places keys.old marks.old }
     ensures lower_bound { (found ≤ result) × (result ≤ 512) × SamePlaces keys.old keys.new marks.new }
-    ensures anchor_marks { AnchorMarks side bars.now prices.now (record { highs = highs.entry.now; lows = lows.now }) found
+    ensures anchor_marks { AnchorMarks side bars.now prices.now (record { highs = highs.now; lows = lows.now }) found
         keys.old marks.old result keys.new marks.new }
 {
     let mut anchors = [[0u16; 3]; 256];
@@ -201,7 +201,7 @@ pub fn thirds_of(
     requires { Fits counts × (length highs.now ≤ 0x1_0000) × (length lows.now ≤ 0x1_0000) × Places keys.old marks.old }
     ensures all_bound { (result.all ≤ 512) × SamePlaces keys.old keys.new marks.new }
     ensures gathers_thirds { GathersThirds counts bars.now prices.now sups.now scans.now zp.now
-        (record { highs = highs.entry.now; lows = lows.now }) result keys.new marks.new }
+        (record { highs = highs.now; lows = lows.now }) result keys.new marks.new }
 {
     let mut zoned = 0usize;
     let mut i = 0usize;

@@ -1,6 +1,6 @@
 // The program `marks` of 01 and 02: prints the 3+N marks of the chart in `chart.dat` over the bars in `bars.dat`, or `refused N at P` alone. It reads
-// at most 65,537 and 65,536 bytes: what follows them changes nothing of what is due, nor does `bars.dat` where the chart is refused (`first-bytes` and
-// `bars-unread` in marks_file/proofs/Input.antt). No contract can say what is read and written, so what is printed is proved of `marks_of_files`.
+// at most 65,537 and 65,536 bytes: what follows them changes nothing of what is due, nor does `bars.dat` where the chart is refused (`first_bytes` and
+// `bars_unread` in marks_file/proofs/Input.antt). No contract can say what is read and written, so what is printed is proved of `marks_of_files`.
 
 #![tactic(auto)]
 

@@ -24,7 +24,7 @@ pub fn load_chart(file: &[u8]) -> Loaded
     chart_read::read_chart(file)
 }
 
-// Whether a chart file is refused: what the bars file holds matters only where it is not (`bars-unread` in proofs/Input.antt).
+// Whether a chart file is refused: what the bars file holds matters only where it is not (`bars_unread` in proofs/Input.antt).
 pub fn chart_refused(file: &[u8]) -> bool
     ensures { result ≡ is_refused (chart_read file.now) }
 {
@@ -35,7 +35,7 @@ pub fn chart_refused(file: &[u8]) -> bool
 // Of a chart that is read, with its bars: a line per 3+N mark, or the refusal of the mark call, whose place is 0.
 fn marks_of_chart(chart: Chart, highs: &[f64], lows: &[f64]) -> Text
     requires { bad_chart chart ≡ false }
-    ensures bytes_value { take result.len result.bytes ≡ marks_of (levels_of chart) (record { highs = highs.entry.now; lows = lows.now }) }
+    ensures bytes_value { take result.len result.bytes ≡ marks_of (levels_of chart) (record { highs = highs.now; lows = lows.now }) }
     ensures len_bound { result.len ≤ 24576 }
 {
     let found = three_n::bigseg_3n_marks_all_zhongshu(chart, highs, lows);
@@ -63,7 +63,7 @@ fn marks_of_bars(chart: Chart, bars: &[u8]) -> Text
 }
 
 // What the program `marks` prints of what its files hold. Lent the first 65,537 bytes of the chart file and the first 65,536 of the bars file, or
-// all where they are shorter, it gives what is due for the whole files (`first-bytes` in proofs/Input.antt).
+// all where they are shorter, it gives what is due for the whole files (`first_bytes` in proofs/Input.antt).
 pub fn marks_of_files(chart: &[u8], bars: &[u8]) -> Text
     ensures bytes_value { take result.len result.bytes ≡ marks_output chart.now bars.now }
     ensures len_bound { result.len ≤ 24576 }

@@ -90,7 +90,7 @@ fn refusal(number: u8) -> ThirdRows
 // The third marks of a chart's overlap zones and anchors: 21, then 8, 1, and 11 where there are more than 256 zones. The chart is handed
 // on once, since each function that takes one copies it.
 pub fn bigseg_third_marks_all_zhongshu(chart: Chart, highs: &[f64], lows: &[f64]) -> ThirdRows
-    ensures { rows_answer result.number result.count result.rows ≡ third_call chart (record { highs = highs.entry.now; lows = lows.now }) }
+    ensures { rows_answer result.number result.count result.rows ≡ third_call chart (record { highs = highs.now; lows = lows.now }) }
 {
     let own = mark_hits::quotes_refusal(highs, lows);
     let mut bars = [[0u16; 6]; 256];

@@ -53,7 +53,7 @@ fn ends_outside(strokes: [Stroke; 512], n: usize, len: usize) -> bool
 
 // 8, 1, and 9 where one of the first n strokes ends outside the slices. A count above all strokes is refused with 21, and counts as all here.
 fn own_number(strokes: [Stroke; 512], n: usize, highs: &[f64], lows: &[f64]) -> u8
-    ensures { result ≡ own_number (take n strokes) (record { highs = highs.entry.now; lows = lows.now }) }
+    ensures { result ≡ own_number (take n strokes) (record { highs = highs.now; lows = lows.now }) }
 {
     let number = mark_hits::quotes_refusal(highs, lows);
     if number != 0 {
@@ -83,7 +83,7 @@ fn rows_by(
     requires fits { Fits counts × (length highs.now ≤ 0x1_0000) × (length lows.now ≤ 0x1_0000) × (length keys.old ≡ 513) }
     requires ready { (c : Levels) × Ready c (record { highs = highs.now; lows = lows.now }) counts bars.now prices.now
         sups.now scans.now zeros keys.old }
-    ensures { GivesMarks (record { highs = highs.entry.now; lows = lows.now }) counts bars.now prices.now
+    ensures { GivesMarks (record { highs = highs.now; lows = lows.now }) counts bars.now prices.now
         sups.now scans.now zeros keys.old result }
 {
     let mut orders = [0u32; 513];
@@ -118,7 +118,7 @@ fn rows_by(
 // The 3+N marks of a chart's overlap zones and anchors: 21, then 8, 1, 9, and 11 where there are more than 256 zones. The chart is handed on
 // once, since each function that takes one copies it.
 pub fn bigseg_3n_marks_all_zhongshu(chart: Chart, highs: &[f64], lows: &[f64]) -> NRows
-    ensures { rows_answer result.number result.count result.rows ≡ n_call chart (record { highs = highs.entry.now; lows = lows.now }) }
+    ensures { rows_answer result.number result.count result.rows ≡ n_call chart (record { highs = highs.now; lows = lows.now }) }
 {
     let strokes = chart.strokes;
     let own = own_number(strokes, chart.stroke_count as usize, highs, lows);

@@ -1,4 +1,4 @@
--- `log::bad_place` meets its contract. The invariant: the first bad entry from the place on is the log's. Assumes nothing.
+-- `call_log::bad_place` meets its contract. The invariant: the first bad entry from the place on is the log's. Assumes nothing.
 use native.Mathlib.Omega.{arith}
 use mathlib.Core.Path.{refl, ◌∙◌}
 use borrow.Author.Rules.{rules}

@@ -1,4 +1,4 @@
--- `log::counted` meets its contract. Assumes nothing.
+-- `call_log::counted` meets its contract. Assumes nothing.
 use borrow.Author.Rules.{rules}
 use Rattle.call_log.proofs.Steps.{with-bar, with_call}
 use Rattle.call_log.proofs.counted.Goals as goal

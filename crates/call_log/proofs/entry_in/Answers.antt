@@ -1,4 +1,4 @@
--- `log::entry_in` meets its contract. Assumes nothing.
+-- `call_log::entry_in` meets its contract. Assumes nothing.
 use native.Mathlib.Omega.{arith}
 use Prim.Native.Nat.{ℕ}
 use mathlib.Core.Path.{sym, ap, ◌∙◌}

@@ -1,4 +1,4 @@
--- `log::next_entry` meets its contract: each way through the tests is a law. Assumes nothing.
+-- `call_log::next_entry` meets its contract: each way through the tests is a law. Assumes nothing.
 use native.Mathlib.Omega.{arith}
 use Rattle.call_log.proofs.Steps.{told-cut, told-late, told-many, told-entry}
 use Rattle.call_log.proofs.next_entry.Goals as goal

@@ -1,4 +1,4 @@
--- `log::width_of` meets its contract. Assumes nothing.
+-- `call_log::width_of` meets its contract. Assumes nothing.
 use mathlib.Core.Logic.{⊎_elim, inl, inr}
 use Rattle.rules.specs.Text.{ascii}
 use Rattle.call_log.specs.Log.{forms, form_of}
