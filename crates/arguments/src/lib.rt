@@ -6,43 +6,32 @@ ghost use Rattle.std.specs.Prelude.{◌≤◌};
 
 use std::env::Env;
 
-// An argument of at most eight bytes, with zeros behind it.
-pub fn word<R: Env>(rt: &R, i: usize) -> [u8; 8] {
-    let mut bytes = [0u8; 8];
-    let _ = rt.arg(i, &mut bytes);
-    bytes
-}
-
-pub fn same(a: [u8; 8], b: [u8; 8]) -> bool {
-    for i in 0..8 {
-        if a[i] != b[i] {
-            return false;
-        }
-    }
-    true
+// An argument as text, in a lent buffer: none where there is none, where it is too long, or where it is not UTF-8.
+pub fn word<'a, R: Env>(rt: &R, i: usize, buffer: &'a mut [u8]) -> Option<&'a str> {
+    let n = rt.arg(i, buffer).ok()?;
+    str::from_utf8(&buffer[..n]).ok()
 }
 
 // A decimal digit's value; 0 of any other byte.
 fn value(byte: u8) -> u32
     ensures { result ≤ 9 }
 {
-    if byte < 48 {
-        0
-    } else if byte < 58 {
-        (byte - 48) as u32
-    } else {
-        0
+    match byte {
+        b'0'..=b'9' => (byte - b'0') as u32,
+        _ => 0,
     }
 }
 
-// The number before the first zero.
-pub fn number(digits: [u8; 8]) -> u32 {
+// The number that an argument of at most eight bytes is.
+pub fn number<R: Env>(rt: &R, i: usize) -> u32 {
+    let mut digits = [0; 8];
+    let _ = rt.arg(i, &mut digits);
     let mut n = 0u32;
-    for i in 0..8 {
-        if digits[i] == 0 {
-            return n;
+    for byte in digits {
+        if byte == 0 {
+            break;
         }
-        n = n % 10000000 * 10 + value(digits[i]);
+        n = n % 10_000_000 * 10 + value(byte);
     }
     n
 }

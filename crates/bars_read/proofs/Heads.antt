@@ -1,21 +1,19 @@
 -- The bar at the head of some bytes, by the tests on its mark, its length, its number, its place and its prices. Assumes nothing.
 use Prim.Native.Nat.{ℕ, zero, suc, ◌+◌, ◌<◌, ◌≤◌}
 use native.Mathlib.Omega.{arith}
-use mathlib.Core.Path.{◌≡◌, refl, sym, ap, ◌∙◌}
+use mathlib.Core.Path.{◌≡◌, refl, sym, ◌∙◌}
 use mathlib.Core.Bool.{Bool, true, false, not, ◌&&◌, ◌||◌}
 use mathlib.Core.List.{List, [], ◌∷◌, get_last?}
 use lib.ListN.{length, get_or, drop, length-drop}
 use lib.Seq.{drop-drop}
 use lib.Dec.{eqb, leb}
 use lib.Ieee.{Float}
-use borrow.Author.Tests.{lt-ltb, le-ltb, eqb-true, not-false}
+use borrow.Author.Tests.{lt-ltb, le-ltb, eq-eqb, ne_eqb, eqb-true, lt-leb, le-leb}
 use Rattle.price.specs.Price.{is_price}
-use Rattle.rules.specs.Text.{ascii}
 use Rattle.rules.specs.Refusals.{refuse}
 use Rattle.rules.specs.Answer.{refused, given, answered}
 use Rattle.rules.specs.File.{number, price}
-use Rattle.rules.specs.BarsFile.{Bar, bar_mark, bar_in, misnumbered, bar_refusal, read_bar}
-use Rattle.laws.proofs.Tests.{refuse_no}
+use Rattle.rules.specs.BarsFile.{Bar, bar_in, misnumbered, bar_refusal, read_bar}
 use Rattle.laws.proofs.BarsSteps.{read_behind_mark, is_bar_mark, bar-two, Numbered, misnumbered-is}
 use Rattle.bars_read.specs.Heads.{last_of}
 
@@ -60,6 +58,14 @@ same_last n bs (a ∷ b ∷ s) h = bar-two n (last_of (length bs)) a b s ∙ go 
     go false = refl
     go true = rw (misnumbered_last (length bs) (bar_in s), misnumbered-is bs (bar_in s) h)
 
+both-no : (a b : ℕ) → (a ≡ 72 → b ≡ 76 → ⊥) → is_bar_mark a b ≡ false
+unfolding is_bar_mark
+both-no a b other = go (eqb a 72) refl
+  where
+    go : (t : Bool) → eqb a 72 ≡ t → (eqb a 72 && eqb b 76) ≡ false
+    go false e = rw e
+    go true e = rw (e, ne_eqb b 76 (other (eqb-true a 72 e)))
+
 module _ (n bars : ℕ) where
   pub head-short : (s : List ℕ) → length s < 2 → refused 13 ≡ read_bar n (last_of bars) s
   unfolding read_bar
@@ -73,62 +79,62 @@ module _ (n bars : ℕ) where
   behind (a ∷ []) h = absurd (omega arith)
   behind (a ∷ b ∷ s) h = bar-two n (last_of bars) a b s
 
-  module _ (s : List ℕ) (h : 2 ≤ length s) (t : Bool) (called : t ≡ (eqb (get_or s 0 0) (get_or bar_mark 0 0) && eqb (get_or s 1 0) (get_or bar_mark 1 0))) where
-    marked : read_bar n (last_of bars) s ≡ read_behind_mark n (last_of bars) (drop 2 s) t
-    unfolding bar_mark ascii is_bar_mark
-    marked = behind s h ∙ ap (read_behind_mark n (last_of bars) (drop 2 s)) (sym called)
+  module _ (s : List ℕ) (h : 2 ≤ length s) where
+    pub head-unknown : (get_or s 0 0 ≡ 72 → get_or s 1 0 ≡ 76 → ⊥) → refused 12 ≡ read_bar n (last_of bars) s
+    unfolding read_behind_mark is_bar_mark
+    head-unknown other = sym (behind s h ∙ rw (both-no (get_or s 0 0) (get_or s 1 0) other))
 
-    pub head-unknown : t ≡ false → refused 12 ≡ read_bar n (last_of bars) s
-    unfolding read_behind_mark
-    head-unknown e = sym (marked ∙ rw e)
-
-    module _ (e : t ≡ true) where
+    module _ (e : get_or s 0 0 ≡ 72) (f : get_or s 1 0 ≡ 76) where
       known : read_bar n (last_of bars) s ≡ answered (bar_refusal n (last_of bars) (drop 2 s)) (bar_in (drop 2 s))
-      unfolding read_behind_mark
-      known = marked ∙ rw e
+      unfolding read_behind_mark is_bar_mark
+      known = behind s h ∙ rw (e, f)
 
       pub head-cut : length s < 20 → refused 13 ≡ read_bar n (last_of bars) s
       unfolding bar_refusal refuse answered
       head-cut l = sym (known ∙ rw (lt-ltb (length (drop 2 s)) 18 (omega (arith, length-drop 2 s))))
 
       -- 20 bytes: the fields decide
-      module _
-          (l : 20 ≤ length s)
-          (i : ℕ)
-          (r : i ≡ number 2 2 s)
-          (x y : Float)
-          (a : x ≡ price 4 s)
-          (b : y ≡ price 12 s)
-          (w : Bool)
-          (j : w ≡ (not (is_price x) || not (is_price y)))
-          (k : ℕ)
-          (f : k ≡ refuse (not (eqb i bars)) 20 (refuse (leb n i) 3 (refuse w 1 0)))
-        where
-          whole : read_bar n (last_of bars) s ≡ answered k (record { number = i; high = x; low = y })
-          unfolding bar_refusal bar_at refuse
-          whole =
-              known
-              ∙ rw (
-                le-ltb (length (drop 2 s)) 18 (omega (arith, length-drop 2 s)),
-                bar-at 0 s,
-                misnumbered_last bars (bar_at 0 s),
-                f,
-                j,
-                r,
-                a,
-                b,
-              )
+      module _ (l : 20 ≤ length s) (i : ℕ) (r : i ≡ number 2 2 s) where
+        whole :
+            read_bar n (last_of bars) s
+            ≡ answered
+            (refuse (not (eqb i bars)) 20 (refuse (leb n i) 3 (refuse (not (is_price (price 4 s)) || not (is_price (price 12 s))) 1 0)))
+            (bar_in (drop 2 s))
+        unfolding bar_refusal bar_at refuse
+        whole =
+            known
+            ∙ rw (
+              le-ltb (length (drop 2 s)) 18 (omega (arith, length-drop 2 s)),
+              bar-at 0 s,
+              misnumbered_last bars (bar_at 0 s),
+              r,
+            )
 
-          pub head-refused : 0 < k → refused k ≡ read_bar n (last_of bars) s
-          unfolding answered
-          head-refused z = go k z whole
+        pub head-misnumbered : (i ≡ bars → ⊥) → refused 20 ≡ read_bar n (last_of bars) s
+        unfolding refuse answered
+        head-misnumbered z = sym (whole ∙ rw (ne_eqb i bars z))
+
+        module _ (z : i ≡ bars) where
+          pub head-full : n ≤ i → refused 3 ≡ read_bar n (last_of bars) s
+          unfolding refuse answered
+          head-full q = sym (whole ∙ rw (eq-eqb i bars z, le-leb n i q))
+
+          module _
+              (q : i < n)
+              (x y : Float)
+              (a : x ≡ price 4 s)
+              (b : y ≡ price 12 s)
+              (w : Bool)
+              (j : w ≡ (not (is_price x) || not (is_price y)))
             where
-              go : (m : ℕ) → 0 < m → read_bar n (last_of bars) s ≡ answered m (record { number = i; high = x; low = y }) → refused m ≡ read_bar n (last_of bars) s
-              go zero z e = absurd (omega arith)
-              go (suc m) z e = sym e
+              priced : read_bar n (last_of bars) s ≡ answered (refuse w 1 0) (bar_in (drop 2 s))
+              unfolding refuse
+              priced = whole ∙ rw (eq-eqb i bars z, lt-leb n i q, j, a, b)
 
-          pub head-bar : k ≡ 0 → given (record { number = bars; high = x; low = y }) ≡ read_bar n (last_of bars) s
-          unfolding answered
-          head-bar z =
-              let same = eqb-true i bars (not-false _ (refuse_no (not (eqb i bars)) 19 _ (sym f ∙ z))) in
-              ap (λ (m : ℕ). given (record { number = m; high = x; low = y })) (sym same) ∙ sym (rw z at whole)
+              pub head-wrong : w ≡ true → refused 1 ≡ read_bar n (last_of bars) s
+              unfolding refuse answered
+              head-wrong e = sym (priced ∙ rw e)
+
+              pub head-bar : w ≡ false → given (bar_in (drop 2 s)) ≡ read_bar n (last_of bars) s
+              unfolding refuse answered
+              head-bar e = sym (priced ∙ rw e)

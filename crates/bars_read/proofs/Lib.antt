@@ -1,4 +1,5 @@
+-- Laws that the proofs cite. Each function has its proof in the folder of its name.
 pub mod Heads
-pub mod Scans
+pub mod Counts
 pub mod Fills
 pub mod ReadCall

@@ -1,17 +1,20 @@
 -- What a writing's contract tells, and what is written is read again. Assumes nothing.
-use Prim.Native.Nat.{ℕ, zero, suc, ◌≤◌}
+use Prim.Native.Nat.{ℕ, zero, suc, ◌<◌, ◌≤◌}
 use native.Mathlib.Omega.{arith}
 use mathlib.Core.Path.{◌≡◌, refl, sym, ap, ◌∙◌}
 use mathlib.Core.Bool.{false}
 use mathlib.Core.List.{List}
 use lib.ListN.{length, take, drop}
 use lib.Seq.{take_at}
-use Rattle.rules.specs.Answer.{AnswerBy, NumberAt, given, answered, count_answer}
+use Rattle.std.specs.Prelude.{Ok, Err}
+use Rattle.chart.specs.declared.Refusal.{Refusal}
+use Rattle.chart.specs.Numbers.{number_of}
+use Rattle.rules.specs.Answer.{AnswerBy, NumberAt, refused, given, answer_of}
 use Rattle.rules.specs.Records.{Quotes}
 use Rattle.rules.specs.Refusals.{bad_slices}
 use Rattle.rules.specs.File.{fill}
 use Rattle.rules.specs.BarsFile.{Bar, read_bars, read_bars_call, bar_count, bars_after, bars_of, bars_written, write_bars_refusal, write_bars_call, bars_buffer_after}
-use Rattle.laws.proofs.Answers.{same_number, same-given}
+use Rattle.laws.proofs.Answers.{positive, answer-ok, answer-err}
 use Rattle.laws.proofs.BarsSteps.{read_sound}
 use Rattle.laws.proofs.BarsBack.{bars_back, quotes_back, after-fill}
 use Rattle.bars_write.proofs.Call.{equal-slices, accepted}
@@ -26,16 +29,7 @@ abbrev filled : Quotes → Quotes → Quotes
 filled q old = record { highs = fill q.highs old.highs; lows = fill q.lows old.lows }
 
 module _ (q : Quotes) (buffer : List ℕ) where
-  number_is : (number count : ℕ) → answered number count ≡ write_bars_call q buffer → number ≡ write_bars_refusal q buffer
-  unfolding write_bars_call
-  number_is number count a = same_number number _ count _ a
-
   module _ (e : write_bars_refusal q buffer ≡ 0) where
-    -- the count of a writing that is not refused
-    count_is : (number count : ℕ) → number ≡ 0 → answered number count ≡ write_bars_call q buffer → count ≡ length (bars_written q)
-    unfolding write_bars_call
-    count_is number count z a = same-given count _ (rw (z, e) at a)
-
     bytes_are : take (length (bars_written q)) (bars_buffer_after q buffer) ≡ bars_written q
     unfolding bars_buffer_after
     bytes_are = let bytes = bars_written q in rw (bars_buffer_after, e) (take_at bytes (drop (length bytes) buffer) (length bytes) refl)
@@ -60,41 +54,49 @@ module _ (q : Quotes) (buffer : List ℕ) where
           ∙ after-fill (bars_of q) old sound.numbered sound.within (equal-slices old good)
           ∙ ap (λ (p : Quotes). filled p old) back
 
-  refused-both :
-      (old : Quotes) (k : ℕ) → (k ≡ 0 → ⊥) → write_bars_refusal q buffer ≡ k
-      → (count_answer k 0 0 ≡ bar_count (trip_call q buffer old)) × (old ≡ bars_after (trip_call q buffer old) old)
-  unfolding count_answer bar_count bars_after trip_call
-  refused-both old zero h e = absurd (h refl)
-  refused-both old (suc k) h e = rw (trip_call, e) (refl, refl)
+  -- a refused writing
+  module _ (e : Refusal) (a : answer_of {A = ℕ} (λ (n : ℕ). n) (Err e) ≡ write_bars_call q buffer) where
+    number_is : write_bars_refusal q buffer ≡ number_of e
+    unfolding write_bars_call
+    number_is = answer-err (λ (n : ℕ). n) _ _ e a
 
-  module _ (number count : ℕ) (after : List ℕ) (a : answered number count ≡ write_bars_call q buffer) (b : after ≡ bars_buffer_after q buffer) where
+    refused-both :
+        (old : Quotes) (k : ℕ) → 0 < k → write_bars_refusal q buffer ≡ k
+        → (refused (record { number = k; place = 0 }) ≡ bar_count (trip_call q buffer old)) × (old ≡ bars_after (trip_call q buffer old) old)
+    unfolding bar_count bars_after trip_call
+    refused-both old zero h e = absurd (omega arith)
+    refused-both old (suc k) h e = rw (trip_call, e) (refl, refl)
+
+    pub refused-trip :
+        (old : Quotes) (after : List ℕ) → after ≡ bars_buffer_after q buffer
+        → Tripped q buffer old (refused (record { number = number_of e; place = 0 })) old after
+    refused-trip old after b =
+        let r = refused-both old (number_of e) (positive e) number_is in
+        record { count_is = r.0; slices_are = r.1; buffer_is = b; restores = λ f. absurd (omega (arith, number_is, positive e)) }
+
+  -- one that is not
+  module _ (count : ℕ) (after : List ℕ) (a : answer_of {A = ℕ} (λ (n : ℕ). n) (Ok count) ≡ write_bars_call q buffer) (b : after ≡ bars_buffer_after q buffer) where
+    written : (write_bars_refusal q buffer ≡ 0) × (count ≡ length (bars_written q))
+    unfolding write_bars_call
+    written = answer-ok (λ (n : ℕ). n) _ _ count a
+
     -- the count is one of the buffer
-    pub count_fits : number ≡ 0 → length after ≡ length buffer → count ≤ length after
-    count_fits z l =
-        let e = sym (number_is number count a) ∙ z in
-        omega (arith, count_is e number count z a, (accepted q buffer e).room, l)
+    pub count_fits : length after ≡ length buffer → count ≤ length after
+    count_fits l = omega (arith, written.1, (accepted q buffer written.0).room, l)
 
-    bytes-written : number ≡ 0 → take count after ≡ bars_written q
-    bytes-written z = let e = sym (number_is number count a) ∙ z in rw (count_is e number count z a, b) (bytes_are e)
+    bytes-written : take count after ≡ bars_written q
+    bytes-written = rw (written.1, b) (bytes_are written.0)
 
-    module _ (old : Quotes) where
-      pub refused-trip : (number ≡ 0 → ⊥) → Tripped q buffer old (count_answer number 0 0) old after
-      refused-trip h =
-          let e = number_is number count a in
-          let r = refused-both old number h (sym e) in
-          record { count_is = r.0; slices_are = r.1; buffer_is = b; restores = λ f. absurd (h (e ∙ f)) }
-
-      pub given-trip :
-          number ≡ 0 → (answer : AnswerBy NumberAt ℕ) (new : Quotes)
-          → (answer ≡ bar_count (read_bars_call old (take count after))) × (new ≡ bars_after (read_bars_call old (take count after)) old)
-          → Tripped q buffer old answer new after
-      given-trip z answer new r =
-          let e = sym (number_is number count a) ∙ z in
-          let same : read_bars_call old (take count after) ≡ trip_call q buffer old = ap (read_bars_call old) (bytes-written z) ∙ sym (reads-written e old) in
-          let slices = r.1 ∙ ap (λ (x : AnswerBy NumberAt (List Bar)). bars_after x old) same in
-          record {
-            count_is = r.0 ∙ ap bar_count same;
-            slices_are = slices;
-            buffer_is = b;
-            restores = λ f good h. (reads-back f old good h, slices ∙ restored f old good h);
-          }
+    pub given-trip :
+        (old : Quotes) (answer : AnswerBy NumberAt ℕ) (new : Quotes) → answer ≡ bar_count (read_bars_call old (take count after))
+        → new ≡ bars_after (read_bars_call old (take count after)) old → Tripped q buffer old answer new after
+    given-trip old answer new r s =
+        let e = written.0 in
+        let same : read_bars_call old (take count after) ≡ trip_call q buffer old = ap (read_bars_call old) bytes-written ∙ sym (reads-written e old) in
+        let slices = s ∙ ap (λ (x : AnswerBy NumberAt (List Bar)). bars_after x old) same in
+        record {
+          count_is = r ∙ ap bar_count same;
+          slices_are = slices;
+          buffer_is = b;
+          restores = λ f good h. (reads-back f old good h, slices ∙ restored f old good h);
+        }

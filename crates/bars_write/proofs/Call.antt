@@ -1,29 +1,24 @@
 -- The refusals of writing bars, and its answer. Assumes nothing.
-use Prim.Native.Nat.{ℕ, zero, suc, ◌*◌, ◌/◌, ◌≤◌}
+use Prim.Native.Nat.{ℕ, zero, suc, ◌*◌, ◌<◌, ◌≤◌}
 use native.Mathlib.Omega.{arith}
 use mathlib.Core.Path.{◌≡◌, refl, sym, ◌∙◌}
-use mathlib.Core.Bool.{Bool, true, false, not}
+use mathlib.Core.Bool.{Bool, true, false, not, ◌&&◌, ◌||◌}
 use mathlib.Core.List.{List}
 use lib.ListN.{length}
 use lib.Dec.{ltb}
-use borrow.Author.Tests.{ltb-false, ltb-true, lt-ltb, le-ltb, eq-eqb, ne_eqb, eqb-true, not-false}
+use borrow.Author.Tests.{ltb-false, eq-eqb, ne_eqb, eqb-true, not-false}
 use Rattle.price.specs.Price.{all_prices}
-use Rattle.rules.specs.Answer.{answered}
+use Rattle.chart.specs.declared.Refusal.{Refusal}
+use Rattle.chart.specs.Numbers.{number_of}
+use Rattle.laws.proofs.Answers.{positive}
 use Rattle.rules.specs.Records.{Quotes}
 use Rattle.rules.specs.Refusals.{refuse, unequal, bad_slices, bad_quotes}
 use Rattle.rules.specs.File.{fill}
-use Rattle.rules.specs.BarsFile.{bars_written, write_bars_refusal, write_bars_call, bars_buffer_after}
+use Rattle.rules.specs.BarsFile.{bars_written, write_bars_refusal, bars_buffer_after}
 use Rattle.laws.proofs.Tests.{or_l, or_r, refuse_no, refuse-on}
 use Rattle.laws.proofs.BarsBack.{length_bars}
 
 -- ---- refusals
-
-pub short : (room bars : ℕ) → ltb (room / 20) bars ≡ ltb room (20 * bars)
-short room bars = go (ltb (room / 20) bars) refl
-  where
-    go : (b : Bool) → ltb (room / 20) bars ≡ b → b ≡ ltb room (20 * bars)
-    go true e = let l = ltb-true (room / 20) bars e in sym (lt-ltb room (20 * bars) (omega arith))
-    go false e = let l = ltb-false (room / 20) bars e in sym (le-ltb room (20 * bars) (omega arith))
 
 module _ (q : Quotes) where
   pub unequal-bad : (length q.highs ≡ length q.lows → ⊥) → true ≡ bad_slices q
@@ -33,6 +28,19 @@ module _ (q : Quotes) where
   pub equal-bad : length q.highs ≡ length q.lows → ltb 65536 (length q.highs) ≡ bad_slices q
   unfolding bad_slices unequal
   equal-bad h = rw (eq-eqb (length q.highs) (length q.lows) h)
+
+  -- one test of both slices decides as two do
+  pub quotes-by : (b t : Bool) → b ≡ (all_prices q.highs && all_prices q.lows) → b ≡ not t → bad_quotes q ≡ t
+  unfolding bad_quotes
+  quotes-by b t e z = go (all_prices q.highs) (all_prices q.lows) t (sym e ∙ z)
+    where
+      go : (x y t : Bool) → (x && y) ≡ not t → (not x || not y) ≡ t
+      go true true true e = cc
+      go true true false e = refl
+      go true false true e = refl
+      go true false false e = cc
+      go false y true e = refl
+      go false y false e = cc
 
   -- what is not refused with 8, and with 1
   pub equal-slices : bad_slices q ≡ false → length q.highs ≡ length q.lows
@@ -82,18 +90,15 @@ module _ (q : Quotes) where
           room = ltb-false (length buffer) (length (bars_written q)) (refuse_no _ 2 0 (refuse-on (bad_quotes q) 0 _ k));
         }
 
-    pub refused_call :
-        (n count : ℕ) → (n ≡ 0 → ⊥) → n ≡ write_bars_refusal q buffer
-        → (answered n count ≡ write_bars_call q buffer) × (buffer ≡ bars_buffer_after q buffer)
-    unfolding answered write_bars_call bars_buffer_after
-    refused_call zero count h e = absurd (h refl)
-    refused_call (suc n) count h e = (rw (← e), rw (← e, bars_buffer_after))
+    pub refused_call : (e : Refusal) → number_of e ≡ write_bars_refusal q buffer → buffer ≡ bars_buffer_after q buffer
+    unfolding bars_buffer_after
+    refused_call e h = go (number_of e) (positive e) h
+      where
+        go : (n : ℕ) → 0 < n → n ≡ write_bars_refusal q buffer → buffer ≡ bars_buffer_after q buffer
+        go zero z k = absurd (omega arith)
+        go (suc n) z k = rw (bars_buffer_after, ← k)
 
-    pub given-call :
-        (n count : ℕ) (new : List ℕ) → n ≡ 0 → n ≡ write_bars_refusal q buffer
-        → (count ≡ length (bars_written q)) × (new ≡ fill (bars_written q) buffer)
-        → (answered 0 count ≡ write_bars_call q buffer) × (new ≡ bars_buffer_after q buffer)
-    unfolding answered write_bars_call bars_buffer_after
-    given-call n count new h e w =
-        let z : write_bars_refusal q buffer ≡ 0 = sym e ∙ h in
-        (rw (z, w.0), w.1 ∙ rw (z, bars_buffer_after))
+    pub given-buffer :
+        (new : List ℕ) → write_bars_refusal q buffer ≡ 0 → new ≡ fill (bars_written q) buffer → new ≡ bars_buffer_after q buffer
+    unfolding bars_buffer_after
+    given-buffer new h w = w ∙ rw (bars_buffer_after, h)

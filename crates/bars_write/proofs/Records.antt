@@ -1,33 +1,18 @@
 -- A bar's record as an array holds it, and the bars that are left from place i on: the next one, and none. Assumes nothing.
-use Prim.Native.Nat.{ℕ, ◌+◌, ◌/◌, ◌%◌, ◌≤◌, ◌<◌}
+use Prim.Native.Nat.{ℕ, ◌+◌, ◌≤◌, ◌<◌}
 use native.Mathlib.Omega.{arith}
 use native.Mathlib.Numerals.{add-one}
 use mathlib.Core.Path.{◌≡◌, refl, ◌∙◌}
-use mathlib.Core.List.{List, [], ◌∷◌, ◌++◌}
+use mathlib.Core.List.{List, []}
 use lib.ListN.{length, get_or, drop, drop_of_length-le}
 use lib.Seq.{drop-cons}
 use lib.Ieee.{Float, nan}
-use Rattle.price.specs.Bytes.{bytes_of, price_bytes}
+use Rattle.price.specs.Bytes.{bytes_of}
 use Rattle.rules.specs.Lists.{each}
 use Rattle.rules.specs.Text.{ascii}
-use Rattle.rules.specs.BarsFile.{Bar, bar_mark, bar_bytes, bars_from}
+use Rattle.rules.specs.BarsFile.{bar_mark, bar_bytes, bars_from}
 use Rattle.rules.specs.File.{fill}
 use Rattle.laws.proofs.FilePut.{put_fill, Writing, begun, Next, ended}
-
-pub bar_made :
-    (x : Bar) (p q : ℕ) (a b : List ℕ) → p ≡ x.number % 256 → q ≡ x.number / 256 % 256 → a ≡ price_bytes x.high → b ≡ price_bytes x.low
-    → ◌≡◌ {A = List ℕ}
-    (72 ∷ 76 ∷ p ∷ q
-    ∷ get_or a 0 0 ∷ get_or a 1 0 ∷ get_or a 2 0 ∷ get_or a 3 0 ∷ get_or a 4 0 ∷ get_or a 5 0 ∷ get_or a 6 0 ∷ get_or a 7 0
-    ∷ get_or b 0 0 ∷ get_or b 1 0 ∷ get_or b 2 0 ∷ get_or b 3 0 ∷ get_or b 4 0 ∷ get_or b 5 0 ∷ get_or b 6 0 ∷ get_or b 7 0 ∷ [])
-    (bar_bytes x)
-unfolding bar_bytes bar_mark ascii bytes_of
-bar_made x p q a b e f g h = rw (e, f, g, h)
-
--- a record that is copied to the start of a lent part
-pub bar_copied : (x : Bar) (bytes old new : List ℕ) → bytes ≡ bar_bytes x → new ≡ bytes → new ++ drop 20 old ≡ fill (bar_bytes x) old
-unfolding bar_bytes bar_mark ascii bytes_of
-bar_copied x bytes old new e h = rw (h, e)
 
 module _ (i : ℕ) (hs ls : List Float) (e : length hs ≡ length ls) where
   pub bar-next :

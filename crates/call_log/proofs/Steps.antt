@@ -3,27 +3,22 @@ use Prim.Native.Nat.{ℕ, zero, suc, ◌+◌, ◌-◌, ◌*◌, ◌≤◌, ◌<�
 use native.Mathlib.Omega.{arith}
 use native.Mathlib.Nat.{zero-add}
 use native.Mathlib.Numerals.{add-one}
-use mathlib.Core.Path.{◌≡◌, refl, sym, ap, ◌∙◌, subst}
+use mathlib.Core.Path.{◌≡◌, refl, sym, ap, ◌∙◌}
 use mathlib.Core.Bool.{Bool, true, false, ◌&&◌, cond, and-false}
-use mathlib.Core.Logic.{◌⊎◌, ⊎_elim, inl, inr}
 use mathlib.Core.List.{List, [], ◌∷◌}
 use mathlib.Core.Option.{Option, none, some}
 use lib.ListN.{length, get_or, take, drop, length-drop, drop_of_length-le}
 use lib.Seq.{drop-cons, drop-drop}
 use lib.Dec.{leb}
-use lib.Ieee.{Float}
 use borrow.Author.Tests.{le-leb, lt-leb, leb-true}
 use Rattle.rules.specs.Answer.{AnswerBy, refused, given}
 use Rattle.rules.specs.Lists.{and_then}
-use Rattle.rules.specs.Machine.{Call, call_of}
 use Rattle.laws.proofs.Tests.{none-some, and_l, and_r}
 use Rattle.laws.proofs.Lists.{All, nil, cons, all-find}
 use Rattle.laws.proofs.FileSteps.{refused_given}
 use Rattle.laws.proofs.FileCode.{part}
-use Rattle.call_log.specs.declared.LogEntry.{LogEntry}
-use Rattle.call_log.specs.declared.LogEntry.TheVariants as entry
-use Rattle.call_log.specs.Log.{Entry, call, bar, Form, forms, form_of, counted, good, form_at, in_front, spelled_from, spelled}
-use Rattle.call_log.specs.Entries.{entry_of, bad_at, width_by, entry_by, counted_by, rest_of, EntryAt, Told}
+use Rattle.call_log.specs.Log.{Entry, Form, forms, form_of, counted, good, form_at, in_front, spelled_from, spelled}
+use Rattle.call_log.specs.Entries.{bad_at, width_by, Long, entry_by, rest_of, EntryAt}
 
 -- ---- the form of an entry
 
@@ -88,23 +83,6 @@ form-good at bars letter fields f e = go (form_of letter) refl
     go none q = absurd (none-some (sym (form-by at bars letter fields none q) ∙ e))
     go (some g) q = pick g q (good at bars fields g) refl (sym (form-by at bars letter fields (some g) q) ∙ e)
 
--- ---- how many bars there are with an entry
-
-pub with-bar : (bars : ℕ) (l : LogEntry) (high low : Float) → l ≡ entry.Bar high low → bars + 1 ≡ counted_by bars (entry_of l)
-unfolding counted_by counted
-with-bar bars l high low e = rw e (add-one bars)
-
--- what is no bar is a call, or bad
-pub no_bar :
-    (l : LogEntry) → ((high low : Float) → l ≡ entry.Bar high low → ⊥) → ((k : Call) × (entry_of l ≡ some (call k))) ⊎ (entry_of l ≡ none)
-no_bar (entry.Call k) h = inl (call_of k, refl)
-no_bar (entry.Bar high low) h = absurd (h high low refl)
-no_bar entry.Bad h = inr refl
-
-pub with_call : (bars : ℕ) (l : LogEntry) → ((high low : Float) → l ≡ entry.Bar high low → ⊥) → bars ≡ counted_by bars (entry_of l)
-unfolding counted_by counted
-with_call bars l h = ⊎_elim (λ k. rw k.1) (λ e. rw e) (no_bar l h)
-
 -- ---- the reading from a place on
 
 -- the fields of an entry are passed over
@@ -136,64 +114,80 @@ module _ (log : List ℕ) (at bars : ℕ) (more : at < length log) where
       (ap (in_front (f.entry fields))
       (pass_over (suc at) (counted bars (f.entry fields)) f.width fields ∙ rw (drop-drop f.width (suc at) log, next, place)))
 
-  -- what the code's tests tell, w being the width that it has for the letter
-  module _ (w : ℕ) (called : w ≡ width_by (form_of letter)) where
-    bad-by :
-        (o : Option Entry) (next after : ℕ) → o ≡ none
-        → ((f : Form) → form_of letter ≡ some f → w ≡ f.width → good at bars fields f ≡ false) → Told log at bars o next after
+  -- the rest of the log as the code has it
+  abbrev behind : List ℕ
+  behind = take (length log - (at + 1)) (drop (at + 1) log)
+
+  behind-is : behind ≡ fields
+  behind-is = part log (at + 1) ∙ rw (add-one at)
+
+  as-long : length behind ≡ length fields
+  as-long = ap length behind-is
+
+  -- a letter that is none
+  pub told-other : none ≡ width_by (form_of letter) → rest_of log at bars ≡ refused at
+  unfolding width_by
+  told-other e = rest-bad (go (form_of letter) refl e)
+    where
+      go : (k : Option Form) → form_of letter ≡ k → none ≡ width_by k → form_at at bars letter fields ≡ none
+      go none q z = form-by at bars letter fields none q
+      go (some f) q z = absurd (none-some z)
+
+  -- what the code's tests tell, w being the width of the letter
+  module _ (w : ℕ) (called : some w ≡ width_by (form_of letter)) where
+    record Known : Type 0 where
+      form : Form
+      is : form_of letter ≡ some form
+      wide : w ≡ form.width
+
+    known : Known
     unfolding width_by
-    bad-by o next after n h = subst (λ (k : Option Entry). Told log at bars k next after) (sym n) (rest-bad (go (form_of letter) refl called))
+    known = go (form_of letter) refl called
       where
-        go : (k : Option Form) → form_of letter ≡ k → w ≡ width_by k → form_at at bars letter fields ≡ none
-        go none e q = form-by at bars letter fields none e
-        go (some f) e q = form-by at bars letter fields (some f) e ∙ rw (h f e q)
+        go : (k : Option Form) → form_of letter ≡ k → some w ≡ width_by k → Known
+        go none q z = absurd (none-some (sym z))
+        go (some f) q z = record { form = f; is = q; wide = cc }
 
-    pub told-cut : (o : Option Entry) (next after : ℕ) → o ≡ none → length log - (at + 1) < w → Told log at bars o next after
-    told-cut o next after n h = bad-by o next after n (λ f e q. good-cut at bars fields f (omega (arith, length-drop (suc at) log)))
+    bad-by : good at bars fields known.form ≡ false → rest_of log at bars ≡ refused at
+    bad-by e = rest-bad (form-by at bars letter fields (some known.form) known.is ∙ rw e)
 
-    pub told-late : (o : Option Entry) (next after : ℕ) → o ≡ none → 65536 < at + 1 + w → Told log at bars o next after
-    told-late o next after n l = bad-by o next after n (λ f e q. good-late at bars fields f (omega arith))
+    pub told-cut : length behind < w → rest_of log at bars ≡ refused at
+    told-cut h = bad-by (good-cut at bars fields known.form (omega (arith, known.wide, as-long)))
+
+    pub told-late : 65536 < at + 1 + w → rest_of log at bars ≡ refused at
+    told-late l = bad-by (good-late at bars fields known.form (omega (arith, known.wide)))
+
+    pub told-long : w ≤ length behind → Long (form_of letter) behind
+    unfolding Long
+    told-long h = rw known.is (omega (arith, known.wide))
 
     -- the entry that the code reads there, and the bars with it
-    module _
-        (o : Option Entry)
-        (c : o ≡ entry_by (form_of letter) (take (length log - (at + 1)) (drop (at + 1) log)))
-        (after : ℕ)
-        (a : after ≡ counted_by bars o)
-      where
-        read : o ≡ entry_by (form_of letter) fields
-        read = c ∙ ap (entry_by (form_of letter)) (part log (at + 1) ∙ rw (add-one at))
+    module _ (e : Entry) (read : some e ≡ entry_by (form_of letter) behind) (after : ℕ) (a : after ≡ counted bars e) where
+      same : e ≡ known.form.entry fields
+      unfolding entry_by
+      same = let z : some e ≡ some (known.form.entry fields) = read ∙ rw (behind-is, known.is) in cc
 
-        pub told-many : (b : Option Entry) (next rest : ℕ) → b ≡ none → 2048 < after → Told log at bars b next rest
-        unfolding entry_by counted_by
-        told-many b next rest n l =
-            bad-by b next rest n
-            (λ f e q.
-            let is : o ≡ some (f.entry fields) = read ∙ ap (λ (k : Option Form). entry_by k fields) e in
-            let sum : after ≡ counted bars (f.entry fields) = a ∙ ap (counted_by bars) is in
-            good-many at bars fields f (omega arith))
+      sum : after ≡ counted bars (known.form.entry fields)
+      sum = a ∙ ap (counted bars) same
 
-        pub told-entry : w ≤ length log - (at + 1) → at + 1 + w ≤ 65536 → after ≤ 2048 → Told log at bars o (at + 1 + w) after
-        unfolding width_by entry_by counted_by
-        told-entry h l m = go (form_of letter) refl called read
-          where
-            go : (k : Option Form) → form_of letter ≡ k → w ≡ width_by k → o ≡ entry_by k fields → Told log at bars o (at + 1 + w) after
-            go none e q r = subst (λ (k : Option Entry). Told log at bars k (at + 1 + w) after) (sym r) (rest-bad (form-by at bars letter fields none e))
-            go (some f) e q r =
-                let long : f.width ≤ length fields = omega (arith, length-drop (suc at) log) in
-                let next : at + 1 + w ≡ at + suc f.width = omega arith in
-                let sum : after ≡ counted bars (f.entry fields) = a ∙ ap (counted_by bars) r in
-                let good : form_at at bars letter fields ≡ some f =
-                form-by at bars letter fields (some f) e ∙ rw (good-yes at bars fields f long (omega arith) (omega arith)) in
-                subst (λ (k : Option Entry). Told log at bars k (at + 1 + w) after) (sym r)
-                (record {
-                  further = omega arith;
-                  within = omega (arith, length-drop (suc at) log);
-                  early = l;
-                  count = sum;
-                  few = m;
-                  rest = rw (next, sum) (rest-form f good);
-                })
+      pub told-many : 2048 < after → rest_of log at bars ≡ refused at
+      told-many l = bad-by (good-many at bars fields known.form (omega (arith, sum)))
+
+      pub told-entry : w ≤ length behind → at + 1 + w ≤ 65536 → after ≤ 2048 → EntryAt log at bars e (at + 1 + w) after
+      told-entry h l m =
+          let long : known.form.width ≤ length fields = omega (arith, known.wide, as-long) in
+          let next : at + 1 + w ≡ at + suc known.form.width = omega (arith, known.wide) in
+          let good : form_at at bars letter fields ≡ some known.form =
+          form-by at bars letter fields (some known.form) known.is
+          ∙ rw (good-yes at bars fields known.form long (omega (arith, known.wide)) (omega (arith, sum))) in
+          record {
+            further = omega arith;
+            within = omega (arith, as-long, length-drop (suc at) log);
+            early = l;
+            count = a;
+            few = m;
+            rest = rw (next, sum, same) (rest-form known.form good);
+          }
 
 -- ---- what the reading is by the entries
 
@@ -207,37 +201,29 @@ unfolding in_front
 front_given k (refused p) ks e = absurd (refused_given e)
 front_given k (given rest) ks e = (rest, refl, cc)
 
--- where no entry is bad: the next one, which is o, and those behind it
-pub record Stepped (log : List ℕ) (at bars : ℕ) (es : List Entry) (o : Option Entry) (next after : ℕ) : Type 0 where
-  pub entry : Entry
+-- where no entry is bad: those behind the next one
+pub record Stepped (log : List ℕ) (at bars : ℕ) (es : List Entry) (e : Entry) (next after : ℕ) : Type 0 where
   pub entries : List Entry
-  pub is : o ≡ some entry
-  pub all : es ≡ entry ∷ entries
-  pub here : EntryAt log at bars entry next after
+  pub all : es ≡ e ∷ entries
+  pub here : EntryAt log at bars e next after
   pub rest : rest_of log next after ≡ given entries
 
 module _ (log : List ℕ) (at bars : ℕ) (es : List Entry) (e : rest_of log at bars ≡ given es) where
-  pub step : (o : Option Entry) (next after : ℕ) → Told log at bars o next after → Stepped log at bars es o next after
-  step none next after t = absurd (refused_given (sym t ∙ e))
-  step (some k) next after t =
+  pub step : (k : Entry) (next after : ℕ) → EntryAt log at bars k next after → Stepped log at bars es k next after
+  step k next after t =
       let s = front_given k (rest_of log next after) es (sym t.rest ∙ e) in
-      record { entry = k; entries = s.0; is = refl; all = s.2; here = t; rest = s.1 }
+      record { entries = s.0; all = s.2; here = t; rest = s.1 }
+
+  pub never : rest_of log at bars ≡ refused at → ⊥
+  never t = refused_given (sym t ∙ e)
 
   pub ends : length log ≤ at → es ≡ []
   ends h = let z : given es ≡ given [] = sym e ∙ at-end log at bars h in cc
 
--- an entry that the code finds good
-pub good-entry :
-    (log : List ℕ) (at bars : ℕ) (l : LogEntry) (next after : ℕ) → (l ≡ entry.Bad → ⊥) → Told log at bars (entry_of l) next after
-    → (e : Entry) × EntryAt log at bars e next after
-good-entry log at bars (entry.Call k) next after h t = (call (call_of k), t)
-good-entry log at bars (entry.Bar high low) next after h t = (bar high low, t)
-good-entry log at bars entry.Bad next after h t = absurd (h refl)
-
 -- the place of the first bad entry, by the entries
-pub bad_here : (log : List ℕ) (at bars next after : ℕ) → Told log at bars none next after → some at ≡ bad_at (rest_of log at bars)
+pub bad_here : (log : List ℕ) (at bars : ℕ) → rest_of log at bars ≡ refused at → some at ≡ bad_at (rest_of log at bars)
 unfolding bad_at
-bad_here log at bars next after t = rw t
+bad_here log at bars t = rw t
 
 pub front_bad : (k : Entry) (a : AnswerBy ℕ (List Entry)) → bad_at (in_front k a) ≡ bad_at a
 unfolding bad_at in_front

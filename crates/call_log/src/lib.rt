@@ -3,9 +3,10 @@
 #![tactic(auto)]
 
 ghost use Rattle.std.specs.Prelude.{◌≡◌, ◌≤◌, ◌<◌, length};
-ghost use Rattle.std.proofs.Math.Option.{none};
-ghost use Rattle.call_log.specs.Log.{form_of, spelled};
-ghost use Rattle.call_log.specs.Entries.{entry_of, place_of, bad_at, width_by, entry_by, counted_by, Told};
+ghost use Rattle.std.proofs.Math.Option.{some};
+ghost use Rattle.chart.specs.Table.{option_of};
+ghost use Rattle.call_log.specs.Log.{form_of, spelled, counted};
+ghost use Rattle.call_log.specs.Entries.{entry_of, bad_at, width_by, entry_by, Long, Told};
 
 use chart::Call;
 
@@ -14,7 +15,6 @@ use chart::Call;
 pub enum LogEntry {
     Call(Call),
     Bar(f64, f64),
-    Bad,
 }
 
 // An entry, the place behind it, and how many bars there are up to there.
@@ -25,33 +25,24 @@ pub struct Next {
     pub bars: usize,
 }
 
-// Where a log has its first bad entry.
-#[derive(Clone, Copy)]
-pub enum Place {
-    At(usize),
-    Nowhere,
-}
-
-// How many bytes of fields a letter has behind it, 0 where it is none.
-fn width_of(letter: u8) -> usize
-    ensures { result ≡ width_by (form_of letter) }
+// How many bytes of fields stand behind a letter.
+fn width_of(letter: u8) -> Option<usize>
+    ensures { option_of result ≡ width_by (form_of letter) }
 {
     match letter {
-        b'S' => 22,
-        b'G' | b'B' | b'U' => 5,
-        b'L' => 2,
-        b'W' => 1,
-        b'D' => 1,
-        b'E' => 1,
-        b'Q' => 16,
-        _ => 0,
+        b'S' => Some(22),
+        b'G' | b'B' | b'U' => Some(5),
+        b'L' => Some(2),
+        b'W' | b'D' | b'E' => Some(1),
+        b'Q' => Some(16),
+        _ => None,
     }
 }
 
 // The entry of a letter with these fields.
 fn entry_in(letter: u8, s: &[u8]) -> LogEntry
-    requires { width_by (form_of letter) ≤ length s.now }
-    ensures { entry_of result ≡ entry_by (form_of letter) s.now }
+    requires { Long (form_of letter) s.now }
+    ensures { some (entry_of result) ≡ entry_by (form_of letter) s.now }
 {
     match letter {
         b'S' => LogEntry::Call(Call::Stroke(fields::stroke_in(s, s[21]))),
@@ -63,73 +54,58 @@ fn entry_in(letter: u8, s: &[u8]) -> LogEntry
         b'D' => LogEntry::Call(Call::DeriveBigs(s[0])),
         b'E' => LogEntry::Call(Call::DeriveSuperiors(s[0])),
         b'Q' => LogEntry::Bar(fields::price_at(s, 0), fields::price_at(s, 8)),
-        _ => LogEntry::Bad,
+        _ => unreachable!(),
     }
 }
 
 // How many bars there are up to an entry and with it.
+#[tactic(auto, unfolding(crate::specs::Log::counted))]
 fn counted(bars: usize, entry: LogEntry) -> usize
     requires { bars ≤ 2048 }
-    ensures { result ≡ counted_by bars (entry_of entry) }
+    ensures { result ≡ counted bars (entry_of entry) }
 {
-    if let LogEntry::Bar(_, _) = entry {
-        return bars + 1;
-    }
-    bars
-}
-
-// A bad entry has no place behind it.
-fn bad(at: usize, bars: usize) -> Next
-    ensures { entry_of result.entry ≡ none }
-{
-    Next {
-        entry: LogEntry::Bad,
-        next: at,
-        bars: bars,
+    match entry {
+        LogEntry::Call(_) => bars,
+        LogEntry::Bar(_, _) => bars + 1,
     }
 }
 
-// The entry whose letter stands at a place, behind so many bars. Another letter has no fields, and its entry is bad.
-pub fn next_entry(log: &[u8], at: usize, bars: usize) -> Next
+// The entry whose letter stands at a place, behind so many bars, if it is good.
+pub fn next_entry(log: &[u8], at: usize, bars: usize) -> Option<Next>
     requires { (at < length log.now) × (bars ≤ 2048) }
-    ensures { Told log.now at bars (entry_of result.entry) result.next result.bars }
+    ensures { Told log.now at bars result }
 {
     let letter = log[at];
-    let width = width_of(letter);
-    let fields = at + 1;
-    if log.len() - fields < width {
-        return bad(at, bars);
+    let fields = &log[at + 1..];
+    let width = width_of(letter)?;
+    if fields.len() < width {
+        return None;
     }
-    let next = fields + width;
+    let next = at + 1 + width;
     if 65536 < next {
-        return bad(at, bars);
+        return None;
     }
-    let entry = entry_in(letter, &log[fields..]);
-    let with_it = counted(bars, entry);
-    if 2048 < with_it {
-        return bad(at, bars);
+    let entry = entry_in(letter, fields);
+    let bars = counted(bars, entry);
+    if 2048 < bars {
+        return None;
     }
-    Next {
-        entry: entry,
-        next: next,
-        bars: with_it,
-    }
+    Some(Next { entry, next, bars })
 }
 
 // The place of the first bad entry of a log.
-pub fn bad_place(log: &[u8]) -> Place
-    ensures { place_of result ≡ bad_at (spelled log.now) }
+pub fn bad_place(log: &[u8]) -> Option<usize>
+    ensures { option_of result ≡ bad_at (spelled log.now) }
 {
     let mut at = 0usize;
     let mut bars = 0usize;
+    // Entries are of different lengths: each says where the next one begins.
     while at < log.len() {
-        let n = next_entry(log, at, bars);
-        let entry = n.entry;
-        if let LogEntry::Bad = entry {
-            return Place::At(at);
-        }
+        let Some(n) = next_entry(log, at, bars) else {
+            return Some(at);
+        };
         at = n.next;
         bars = n.bars;
     }
-    Place::Nowhere
+    None
 }

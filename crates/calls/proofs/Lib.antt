@@ -1,4 +1,1 @@
 pub mod Last
-pub mod Chain
-pub mod Single
-pub mod Broken

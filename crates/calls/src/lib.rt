@@ -2,19 +2,23 @@
 
 #![tactic(auto)]
 
-ghost use Rattle.std.specs.Prelude.{◌≡◌, false, cond, ◌≤◌, ◌-◌, length, take, eqb};
-ghost use mathlib.Core.List.{List, get_last?};
-ghost use Rattle.std.proofs.Math.Option.{none, some};
-ghost use Rattle.chart.specs.declared.Triple.{Triple};
+ghost use Rattle.std.specs.Prelude.{◌≡◌, length};
+ghost use mathlib.Core.List.{get_last?};
+ghost use Rattle.std.proofs.Math.Option.{none};
+ghost use Rattle.chart.specs.Table.{option_of};
+ghost use Rattle.chart.specs.Numbers.{number_in};
+ghost use Rattle.rules.specs.Lists.{is_empty};
 ghost use Rattle.rules.specs.Records.{levels_of};
-ghost use Rattle.rules.specs.Refusals.{refuse, bad_stroke, unmet, unjoined, bad_triple, overfull, held, broken_strokes, broken_triples, broken_levels};
+ghost use Rattle.rules.specs.Refusals.{refuse, held};
+ghost use Rattle.rules.specs.Refusals.{bad_stroke, unmet, unjoined, bad_triple, broken_strokes, broken_triples, broken_levels};
 ghost use Rattle.rules.specs.Refusals.{stroke_refusal, triple_refusal, lengthen_refusal, withdraw_refusal, derive_refusal};
 
-use chart::{Chart, Stroke, Triple};
+use chart::{Chart, Refusal, Stroke, Triple};
 
-// ---- one record
+// ---- one record, given the one before it in its level
 
 // 4 of a stroke: start bar ≥ end bar, or up without end > start, or down without end < start.
+#[tactic(auto, unfolding(rules::specs::Refusals::bad_stroke))]
 fn bad_stroke(s: Stroke) -> bool
     ensures { result ≡ bad_stroke s }
 {
@@ -22,278 +26,199 @@ fn bad_stroke(s: Stroke) -> bool
         return true;
     }
     if s.direction == 1 {
-        return !(s.start_price < s.end_price);
+        !(s.start_price < s.end_price)
+    } else {
+        !(s.end_price < s.start_price)
     }
-    !(s.end_price < s.start_price)
 }
 
 // Whether the start price of a stroke breaks its 14 behind p: it is not the previous end price, and the stroke is not rolled.
+#[tactic(auto, unfolding(rules::specs::Refusals::unmet))]
 fn unmet(p: Stroke, s: Stroke) -> bool
     ensures { result ≡ unmet p s }
 {
-    (s.roll != 1) & !(s.start_price == p.end_price)
+    s.start_price != p.end_price && s.roll != 1
 }
 
-// 14 of a stroke behind p: start bar or start price differs from the previous end, or same direction.
-fn unjoined(p: Stroke, s: Stroke) -> bool
-    ensures { result ≡ unjoined (some p) s }
+// 14 of a stroke: start bar or start price differs from the previous end, or same direction. The first of all has none.
+#[tactic(auto, unfolding(rules::specs::Refusals::unjoined))]
+fn unjoined(previous: Option<Stroke>, s: Stroke) -> bool
+    ensures { result ≡ unjoined (option_of previous) s }
 {
-    (s.start_bar != p.end_bar) | unmet(p, s) | (s.direction == p.direction)
+    match previous {
+        Some(p) => s.start_bar != p.end_bar || unmet(p, s) || s.direction == p.direction,
+        None => false,
+    }
 }
 
-// 4 of a segment, big or superior behind p: first > last, or first ≤ the previous record's last.
-fn bad_triple(p: Triple, t: Triple) -> bool
-    ensures { result ≡ bad_triple (some p) t }
+// 4 of a segment, big or superior: first > last, or first ≤ the previous record's last.
+#[tactic(auto, unfolding(rules::specs::Refusals::bad_triple))]
+fn bad_triple(previous: Option<Triple>, t: Triple) -> bool
+    ensures { result ≡ bad_triple (option_of previous) t }
 {
-    t.last < t.first || t.first <= p.last
+    match previous {
+        Some(p) => t.last < t.first || t.first <= p.last,
+        None => t.last < t.first,
+    }
 }
 
 // ---- 21: records that break their add's 4, 5 or 14
 
 // Among the strokes.
-fn broken_strokes(chart: Chart) -> bool
-    requires { chart.stroke_count ≤ 512 }
-    ensures { result ≡ broken_strokes none (levels_of chart).strokes }
+#[tactic(auto, unfolding(rules::specs::Refusals::broken_strokes))]
+fn broken_strokes(strokes: &[Stroke]) -> bool
+    ensures { result ≡ broken_strokes none strokes.now }
 {
-    let n = chart.stroke_count;
-    if n == 0 {
-        return false;
-    }
-    let mut p = chart.strokes[0];
-    if bad_stroke(p) {
-        return true;
-    }
-    let mut i = 1u16;
-    while i < n {
-        let next = chart.strokes[i as usize];
-        if bad_stroke(next) {
+    let mut previous = None;
+    for s in strokes {
+        if bad_stroke(*s) || unjoined(previous, *s) {
             return true;
         }
-        if unjoined(p, next) {
-            return true;
-        }
-        p = next;
-        i += 1;
+        previous = Some(*s);
     }
     false
 }
 
-// Among the first n records of a level over one of `below` records.
-fn broken_triples(triples: [Triple; 256], n: u16, below: u16) -> bool
-    requires { n ≤ 256 }
-    ensures { result ≡ broken_triples below none (take n triples) }
+// Among the records of a level over one of `below` records.
+#[tactic(auto, unfolding(rules::specs::Refusals::broken_triples))]
+fn broken_triples(level: &[Triple], below: usize) -> bool
+    ensures { result ≡ broken_triples below none level.now }
 {
-    if n == 0 {
-        return false;
-    }
-    let mut p = triples[0];
-    if p.last < p.first {
-        return true;
-    }
-    if below <= p.last {
-        return true;
-    }
-    let mut k = 1u16;
-    while k < n {
-        let t = triples[k as usize];
-        if bad_triple(p, t) {
+    let mut previous = None;
+    for t in level {
+        if bad_triple(previous, *t) || below <= t.last as usize {
             return true;
         }
-        if below <= t.last {
-            return true;
-        }
-        p = t;
-        k += 1;
+        previous = Some(*t);
     }
     false
 }
 
 // Among all levels.
-pub fn broken_levels(chart: Chart) -> bool
-    requires { overfull chart ≡ false }
-    ensures { result ≡ broken_levels (levels_of chart) }
+#[tactic(auto, unfolding(rules::specs::Refusals::broken_levels, rules::specs::Records::levels_of))]
+pub fn broken_levels(chart: &Chart) -> bool
+    ensures { result ≡ broken_levels (levels_of chart.now) }
 {
-    if broken_strokes(chart) {
-        return true;
-    }
-    let segments = chart.segments;
-    if broken_triples(segments, chart.segment_count, chart.stroke_count) {
-        return true;
-    }
-    let bigs = chart.bigs;
-    if broken_triples(bigs, chart.big_count, chart.segment_count) {
-        return true;
-    }
-    let superiors = chart.superiors;
-    broken_triples(superiors, chart.superior_count, chart.big_count)
+    broken_strokes(chart.strokes())
+        || broken_triples(chart.segments(), chart.strokes().len())
+        || broken_triples(chart.bigs(), chart.segments().len())
+        || broken_triples(chart.superiors(), chart.bigs().len())
 }
 
 // ---- the calls' own numbers
 
-// The place of the last of n records, 0 where there is none.
-fn last_place(n: u16) -> usize
-    ensures { result ≡ n - 1 }
+// The last record of a level.
+fn last_of<T: Copy>(level: &[T]) -> Option<T>
+    ensures { option_of result ≡ get_last? level.now }
 {
-    if n == 0 {
-        return 0;
-    }
-    (n - 1) as usize
-}
-
-// 14 of a stroke behind n others, the last of them p.
-fn unjoined_from(n: u16, p: Stroke, s: Stroke) -> bool
-    ensures { result ≡ unjoined (cond (eqb n 0) none (some p)) s }
-{
-    if n == 0 {
-        return false;
-    }
-    unjoined(p, s)
-}
-
-// 4 of a segment, big or superior behind n others, the last of them p.
-fn bad_from(n: u16, p: Triple, t: Triple) -> bool
-    ensures { result ≡ bad_triple (cond (eqb n 0) none (some p)) t }
-{
-    if n == 0 {
-        return t.last < t.first;
-    }
-    bad_triple(p, t)
-}
-
-// The first number of an add whose condition holds, 0 where none does: strokes have no 5, other levels no 1 and no 14.
-fn first_of(full: bool, way: bool, price: bool, order: bool, outside: bool, apart: bool) -> u8
-    ensures { result ≡ refuse full 3 (refuse way 2 (refuse price 1 (refuse order 4 (refuse outside 5 (refuse apart 14 0))))) }
-{
-    if full {
-        return 3;
-    }
-    if way {
-        return 2;
-    }
-    if price {
-        return 1;
-    }
-    if order {
-        return 4;
-    }
-    if outside {
-        return 5;
-    }
-    if apart {
-        return 14;
-    }
-    0
+    level.last().copied()
 }
 
 // Add stroke: 3 full; 2; 1; 4; 14.
-pub fn stroke_refusal(chart: Chart, s: Stroke) -> u8
-    requires { overfull chart ≡ false }
-    ensures { result ≡ stroke_refusal (levels_of chart).strokes s }
+#[tactic(auto, unfolding(rules::specs::Refusals::stroke_refusal, rules::specs::Refusals::refuse, rules::specs::Refusals::bad_prices))]
+pub fn stroke_refusal(strokes: &[Stroke], s: Stroke) -> Result<(), Refusal>
+    ensures { number_in result ≡ stroke_refusal strokes.now s }
 {
-    let n = chart.stroke_count;
-    let k = last_place(n);
-    let p = chart.strokes[k];
-    first_of(
-        512 <= n,
-        levels::wrong_bytes(s),
-        price::wrong_prices(s.start_price, s.end_price),
-        bad_stroke(s),
-        false,
-        unjoined_from(n, p, s),
-    )
-}
-
-// Add segment, big, superior behind the first n of a level, over one of `below` records: 3 full; 2; 4; 5.
-pub fn triple_refusal(triples: [Triple; 256], n: u16, below: u16, t: Triple) -> u8
-    requires { n ≤ 256 }
-    ensures { result ≡ triple_refusal (take n triples) below t }
-{
-    let k = last_place(n);
-    let p = triples[k];
-    first_of(
-        256 <= n,
-        1 < t.direction,
-        false,
-        bad_from(n, p, t),
-        below <= t.last,
-        false,
-    )
-}
-
-// Lengthen the last of n superiors, over `bigs` bigs: 7 no superior; 4 new last ≤ present; 5 not a big.
-pub fn lengthen_refusal(superiors: [Triple; 256], n: u16, bigs: u16, last: u16) -> u8
-    requires { n ≤ 256 }
-    ensures { result ≡ lengthen_refusal (get_last? (take n superiors)) bigs last }
-{
-    if n == 0 {
-        return 7;
+    if 512 <= strokes.len() {
+        return Err(Refusal::Full);
     }
-    let present = superiors[(n - 1) as usize].last;
+    if levels::wrong_bytes(s) {
+        return Err(Refusal::Above);
+    }
+    if price::wrong_prices(s.start_price, s.end_price) {
+        return Err(Refusal::Price);
+    }
+    if bad_stroke(s) {
+        return Err(Refusal::Order);
+    }
+    if unjoined(last_of(strokes), s) {
+        return Err(Refusal::Apart);
+    }
+    Ok(())
+}
+
+// Add segment, big or superior to a level over one of `below` records: 3 full; 2; 4; 5.
+#[tactic(auto, unfolding(rules::specs::Refusals::triple_refusal, rules::specs::Refusals::refuse))]
+pub fn triple_refusal(level: &[Triple], below: usize, t: Triple) -> Result<(), Refusal>
+    ensures { number_in result ≡ triple_refusal level.now below t }
+{
+    if 256 <= level.len() {
+        return Err(Refusal::Full);
+    }
+    if 1 < t.direction {
+        return Err(Refusal::Above);
+    }
+    if bad_triple(last_of(level), t) {
+        return Err(Refusal::Order);
+    }
+    if below <= t.last as usize {
+        return Err(Refusal::Below);
+    }
+    Ok(())
+}
+
+// Lengthen the last superior, over `bigs` bigs: 7 no superior; 4 new last ≤ present; 5 not a big.
+#[tactic(auto, unfolding(rules::specs::Refusals::lengthen_refusal, rules::specs::Refusals::refuse))]
+pub fn lengthen_refusal(superiors: &[Triple], bigs: usize, last: u16) -> Result<(), Refusal>
+    ensures { number_in result ≡ lengthen_refusal (get_last? superiors.now) bigs last }
+{
+    let present = last_of(superiors).ok_or(Refusal::Empty)?.last;
     if last <= present {
-        return 4;
+        return Err(Refusal::Order);
     }
-    if bigs <= last {
-        return 5;
+    if bigs <= last as usize {
+        return Err(Refusal::Below);
     }
-    0
+    Ok(())
 }
 
-// Withdraw from a level of `count` records under the first n of the level above: 7 level empty; 6 the record is the last of the level
-// above's last record.
-fn under_refusal(count: u16, above: [Triple; 256], n: u16) -> u8
-    requires { n ≤ 256 }
-    ensures { result ≡ refuse (eqb count 0) 7 (refuse (held (get_last? (take n above)) count) 6 0) }
+// 7 of an empty level.
+#[tactic(auto, unfolding(rules::specs::Refusals::refuse))]
+fn not_empty<T>(level: &[T]) -> Result<(), Refusal>
+    ensures { number_in result ≡ refuse (is_empty level.now) 7 0 }
 {
-    if count == 0 {
-        return 7;
+    if level.is_empty() {
+        return Err(Refusal::Empty);
     }
-    if n == 0 {
-        return 0;
-    }
-    let last = above[(n - 1) as usize].last;
-    let own = count - 1;
-    if last == own {
-        return 6;
-    }
-    0
+    Ok(())
 }
 
-// Withdraw: 2 level above 3; 7 level empty; 6 the record is the last of the level above's last record.
-pub fn withdraw_refusal(chart: Chart, level: u8) -> u8
-    requires { overfull chart ≡ false }
-    ensures { result ≡ withdraw_refusal (levels_of chart) level }
+// Withdraw from a level under another: 7 level empty; 6 the record is the last of the level above's last record.
+#[tactic(auto, unfolding(rules::specs::Refusals::refuse, rules::specs::Refusals::held))]
+fn under_refusal<T>(level: &[T], above: &[Triple]) -> Result<(), Refusal>
+    ensures { number_in result ≡ refuse (is_empty level.now) 7 (refuse (held (get_last? above.now) (length level.now)) 6 0) }
 {
-    let n = chart.superior_count;
-    if level == 0 {
-        let segments = chart.segments;
-        return under_refusal(chart.stroke_count, segments, chart.segment_count);
+    not_empty(level)?;
+    match last_of(above) {
+        Some(t) if t.last as usize + 1 == level.len() => Err(Refusal::Held),
+        _ => Ok(()),
     }
-    if level == 1 {
-        let bigs = chart.bigs;
-        return under_refusal(chart.segment_count, bigs, chart.big_count);
-    }
-    if level == 2 {
-        let superiors = chart.superiors;
-        return under_refusal(chart.big_count, superiors, n);
-    }
-    if 3 < level {
-        return 2;
-    }
-    if n == 0 {
-        return 7;
-    }
-    0
 }
 
-// Derive into a level of `count` records: 2 case-3 byte above 1; 6 level not empty.
-pub fn derive_refusal(count: u16, byte: u8) -> u8
-    ensures { (ts : List Triple) → length ts ≡ count → result ≡ derive_refusal ts byte }
+// Withdraw: 2 level above 3; 7 level empty; 6 the record is the last of the level above's last record. No level is above the superiors.
+#[tactic(auto, unfolding(rules::specs::Refusals::withdraw_refusal, rules::specs::Records::levels_of))]
+pub fn withdraw_refusal(chart: &Chart, level: u8) -> Result<(), Refusal>
+    ensures { number_in result ≡ withdraw_refusal (levels_of chart.now) level }
+{
+    match level {
+        0 => under_refusal(chart.strokes(), chart.segments()),
+        1 => under_refusal(chart.segments(), chart.bigs()),
+        2 => under_refusal(chart.bigs(), chart.superiors()),
+        3 => not_empty(chart.superiors()),
+        _ => Err(Refusal::Above),
+    }
+}
+
+// Derive into a level: 2 case-3 byte above 1; 6 level not empty.
+#[tactic(auto, unfolding(rules::specs::Refusals::derive_refusal, rules::specs::Refusals::refuse))]
+pub fn derive_refusal(level: &[Triple], byte: u8) -> Result<(), Refusal>
+    ensures { number_in result ≡ derive_refusal level.now byte }
 {
     if 1 < byte {
-        return 2;
+        return Err(Refusal::Above);
     }
-    if count != 0 {
-        return 6;
+    if !level.is_empty() {
+        return Err(Refusal::Held);
     }
-    0
+    Ok(())
 }

@@ -3,6 +3,11 @@
 
 #![tactic(auto)]
 
+ghost use Rattle.std.specs.Prelude.{◌≡◌, take};
+ghost use Rattle.chart.specs.Numbers.{number_of};
+
+use std::fmt;
+
 // Direction: 1 up, 0 down. Roll byte: with 1 the start price need not be the end price of the stroke before. (Added; the reference has none.)
 // A price is a finite f64 that is not -0.
 #[derive(Clone, Copy)]
@@ -60,9 +65,9 @@ pub enum Range {
 
 // The end point of a big: the end bar and end price of the last stroke of its last segment. (Option<(usize, f64)>)
 #[derive(Clone, Copy)]
-pub enum EndPoint {
-    At(u16, f64),
-    Nowhere,
+pub struct EndPoint {
+    pub bar: u16,
+    pub price: f64,
 }
 
 // An overlap zone: the index of its superior, its bars and its four prices. Added: the index among the bigs of its first member,
@@ -164,6 +169,34 @@ pub struct Chart {
     pub superior_count: u16,
 }
 
+impl Chart {
+    // The records of each level: those that are counted, and no more than there is room for.
+
+    pub fn strokes(&self) -> &[Stroke]
+        ensures { result.now ≡ take self.now.stroke_count self.now.strokes }
+    {
+        &self.strokes[..(self.stroke_count as usize).min(512)]
+    }
+
+    pub fn segments(&self) -> &[Triple]
+        ensures { result.now ≡ take self.now.segment_count self.now.segments }
+    {
+        &self.segments[..(self.segment_count as usize).min(256)]
+    }
+
+    pub fn bigs(&self) -> &[Triple]
+        ensures { result.now ≡ take self.now.big_count self.now.bigs }
+    {
+        &self.bigs[..(self.big_count as usize).min(256)]
+    }
+
+    pub fn superiors(&self) -> &[Triple]
+        ensures { result.now ≡ take self.now.superior_count self.now.superiors }
+    {
+        &self.superiors[..(self.superior_count as usize).min(256)]
+    }
+}
+
 // A call on a live chart, with its arguments but without the chart: an add to a level, lengthen with the new last, withdraw with a level, derive
 // with its case-3 byte.
 #[derive(Clone, Copy)]
@@ -176,4 +209,86 @@ pub enum Call {
     Withdraw(u8),
     DeriveBigs(u8),
     DeriveSuperiors(u8),
+}
+
+// Why a call is refused.
+#[derive(Clone, Copy, Debug, PartialEq, Eq)]
+pub enum Refusal {
+    // a price that isn't one, in a record or in a lent slice
+    Price,
+    // a direction, a roll or a case-3 byte above 1, a level above 3
+    Above,
+    // no place left, or a buffer too short
+    Full,
+    // bars, prices or indices that are not in order
+    Order,
+    // a last index that the level below does not have
+    Below,
+    // a record that the level above needs, or a level that is not empty
+    Held,
+    // an empty level
+    Empty,
+    // lent slices of unequal length, or too long
+    Slices,
+    // an end bar outside the lent slices
+    Outside,
+    // an item that lacks a stroke or a segment
+    Lacking,
+    // more than 256 zones
+    Zones,
+    // an unknown mark
+    Mark,
+    // a record that is cut short
+    Cut,
+    // a stroke that does not join the one before
+    Apart,
+    // a bar that is not in its place
+    Bar,
+    // a chart that no call takes
+    Chart,
+}
+
+impl Refusal {
+    // The number that stands for it in print.
+    pub fn number(self) -> u8
+        ensures { result ≡ number_of self }
+    {
+        match self {
+            Refusal::Price => 1,
+            Refusal::Above => 2,
+            Refusal::Full => 3,
+            Refusal::Order => 4,
+            Refusal::Below => 5,
+            Refusal::Held => 6,
+            Refusal::Empty => 7,
+            Refusal::Slices => 8,
+            Refusal::Outside => 9,
+            Refusal::Lacking => 10,
+            Refusal::Zones => 11,
+            Refusal::Mark => 12,
+            Refusal::Cut => 13,
+            Refusal::Apart => 14,
+            Refusal::Bar => 20,
+            Refusal::Chart => 21,
+        }
+    }
+}
+
+impl fmt::Display for Refusal {
+    fn fmt<W: fmt::Write>(&self, f: &mut fmt::Formatter<W>) -> fmt::Result {
+        write!(f, "{}", self.number())
+    }
+}
+
+// A record of a file that is refused: why, and the place of its mark.
+#[derive(Clone, Copy, Debug, PartialEq, Eq)]
+pub struct RefusedAt {
+    pub refusal: Refusal,
+    pub place: usize,
+}
+
+impl fmt::Display for RefusedAt {
+    fn fmt<W: fmt::Write>(&self, f: &mut fmt::Formatter<W>) -> fmt::Result {
+        write!(f, "refused {} at {}", self.refusal, self.place)
+    }
 }

@@ -1,4 +1,3 @@
-pub mod RecordKinds
+-- Laws that the proofs cite. Each function has its proof in the folder of its name.
 pub mod Heads
 pub mod Scans
-pub mod ReadCall

@@ -1,5 +1,5 @@
 -- A scan of a file's records: what is reached at a place, and one record more. Assumes nothing.
-use Prim.Native.Nat.{ℕ, zero, suc, ◌+◌, ◌-◌, ◌<◌, ◌≤◌}
+use Prim.Native.Nat.{ℕ, suc, ◌+◌, ◌-◌, ◌<◌, ◌≤◌}
 use native.Mathlib.Omega.{arith}
 use mathlib.Core.Path.{◌≡◌, refl, sym, ap, ◌∙◌}
 use mathlib.Core.Bool.{Bool, false}
@@ -12,7 +12,12 @@ use borrow.Author.Tests.{leb-false, le-ltb}
 use Rattle.chart.specs.declared.Chart.{Chart}
 use Rattle.chart.specs.declared.Stroke.{Stroke}
 use Rattle.chart.specs.declared.Triple.{Triple}
-use Rattle.rules.specs.Answer.{Answer, refused, given}
+use Rattle.std.specs.Prelude.{Ok, Err}
+use Rattle.std.specs.declared.result.Result.{Result}
+use Rattle.chart.specs.declared.Refusal.{Refusal}
+use Rattle.chart.specs.Numbers.{number_of}
+use Rattle.rules.specs.File as rules
+use Rattle.rules.specs.Answer.{Answer, refused, given, answer_of}
 use Rattle.rules.specs.Records.{levels_of}
 use Rattle.rules.specs.Refusals.{overfull}
 use Rattle.rules.specs.File.{
@@ -26,7 +31,6 @@ use Rattle.rules.specs.File.{
   width,
   kind_of,
   kind,
-  Record,
   stroke,
   segment,
   big,
@@ -43,14 +47,10 @@ use Rattle.rules.specs.File.{
 }
 use Rattle.laws.proofs.Answers.{Counted}
 use Rattle.laws.proofs.Arrays.{Sized, sized_via}
-use Rattle.laws.proofs.FileSteps.{stroke-kind, answered_above, read_behind, read-two, accepted, at-end, at_refused, at_given}
+use Rattle.laws.proofs.FileSteps.{stroke-kind, read_behind, read-two, accepted, at-end, at_refused, at_given}
 use Rattle.laws.proofs.FileCode.{Room, stored, levels-stored, part}
-use Rattle.chart_read.specs.declared.Counts.{Counts}
-use Rattle.chart_read.specs.declared.Head.{Head}
-use Rattle.chart_read.specs.declared.Level.{Level}
-use Rattle.chart_read.specs.Loaded.{loaded}
-use Rattle.chart_read.specs.Heads.{triple_by, answer_of, full_by}
-use Rattle.chart_read.specs.declared.Head.TheVariants as head
+use Rattle.chart_read.specs.declared.Record.{Record}
+use Rattle.chart_read.specs.Heads.{record_by, full_by}
 
 -- ---- a test for room that goes by the counts
 
@@ -65,18 +65,6 @@ same_full f g (a ∷ b ∷ s) h = read-two f a b s ∙ go (kind_of a b) ∙ sym 
     go none = refl
     go (some k) = rw (h k)
 
-behind_above : (f : Kind → Bool) (s : List ℕ) (o : Option Kind) (k : ℕ) → read_behind f s o ≡ refused k → 0 < k
-unfolding read_behind
-behind_above f s none k e = let z : 12 ≡ k = cc in omega arith
-behind_above f s (some j) k e = answered_above _ (record_in j s) k e
-
--- no record is refused with 0
-pub refused_above : (f : Kind → Bool) (s : List ℕ) (k : ℕ) → read_record f s ≡ refused k → 0 < k
-unfolding read_record
-refused_above f [] k e = let z : 13 ≡ k = cc in omega arith
-refused_above f (a ∷ []) k e = let z : 13 ≡ k = cc in omega arith
-refused_above f (a ∷ b ∷ s) k e = behind_above f s (kind_of a b) k (sym (read-two f a b s) ∙ e)
-
 -- ---- a chart whose counts are within its arrays
 
 counted-fits : (c : Chart) → Counted c → overfull c ≡ false
@@ -90,42 +78,38 @@ counted-fits c k =
     )
 
 module _ (c : Chart) where
-  abbrev pub countsOf : Counts
-  countsOf =
-      record { strokes = c.stroke_count; segments = c.segment_count; bigs = c.big_count; superiors = c.superior_count }
-
   -- what that test says where a record is read: its place is in its array
-  abbrev pub Free : Record → Type 0
+  abbrev pub Free : rules.Record → Type 0
   Free (stroke s) = c.stroke_count < 512
   Free (segment t) = c.segment_count < 256
   Free (big t) = c.big_count < 256
   Free (superior t) = c.superior_count < 256
   Free (bar bytes) = Unit {0}
 
-  free : (r : Record) → full_by countsOf (kind r) ≡ false → Free r
+  free : (r : rules.Record) → full_by c (kind r) ≡ false → Free r
   unfolding full_by kind
   free (stroke s) e =
-      let n = c.stroke_count in leb-false 512 n (sym (stroke-kind (full_by countsOf) (leb 512 n) refl refl s) ∙ e)
+      let n = c.stroke_count in leb-false 512 n (sym (stroke-kind (full_by c) (leb 512 n) refl refl s) ∙ e)
   free (segment t) e = leb-false 256 c.segment_count e
   free (big t) e = leb-false 256 c.big_count e
   free (superior t) e = leb-false 256 c.superior_count e
   free (bar bytes) e = tt
 
-  room : (r : Record) → Sized c → Free r → Room c r
+  room : (r : rules.Record) → Sized c → Free r → Room c r
   room (stroke s) z f = omega arith
   room (segment t) z f = omega arith
   room (big t) z f = omega arith
   room (superior t) z f = omega arith
   room (bar bytes) z f = tt
 
-  sized-stored : (r : Record) → Sized c → Sized (stored c r)
+  sized-stored : (r : rules.Record) → Sized c → Sized (stored c r)
   sized-stored (stroke s) z = sized_via _ (simp length-set z.strokes) z.segments z.bigs z.superiors
   sized-stored (segment t) z = sized_via _ z.strokes (simp length-set z.segments) z.bigs z.superiors
   sized-stored (big t) z = sized_via _ z.strokes z.segments (simp length-set z.bigs) z.superiors
   sized-stored (superior t) z = sized_via _ z.strokes z.segments z.bigs (simp length-set z.superiors)
   sized-stored (bar bytes) z = z
 
-  counted-stored : (r : Record) → Counted c → Free r → Counted (stored c r)
+  counted-stored : (r : rules.Record) → Counted c → Free r → Counted (stored c r)
   counted-stored (stroke s) k f = record { strokes = omega arith; segments = k.segments; bigs = k.bigs; superiors = k.superiors }
   counted-stored (segment t) k f = record { strokes = k.strokes; segments = omega arith; bigs = k.bigs; superiors = k.superiors }
   counted-stored (big t) k f = record { strokes = k.strokes; segments = k.segments; bigs = omega arith; superiors = k.superiors }
@@ -133,7 +117,7 @@ module _ (c : Chart) where
   counted-stored (bar bytes) k f = k
 
   -- the test is the definition's
-  agree : Sized c → Counted c → (k : Kind) → full_by countsOf k ≡ full (levels_of c) k
+  agree : Sized c → Counted c → (k : Kind) → full_by c k ≡ full (levels_of c) k
   unfolding full_by full levels_of
   agree z k ST = rw (length-take-le c.stroke_count c.strokes (omega arith))
   agree z k SR = rw (length-take-le c.stroke_count c.strokes (omega arith))
@@ -143,17 +127,17 @@ module _ (c : Chart) where
   agree z k BR = refl
 
 -- one bar more is passed over, where the record is one
-abbrev pub passed_after : ℕ → Record → ℕ
+abbrev pub passed_after : ℕ → rules.Record → ℕ
 passed_after n (stroke s) = n
 passed_after n (segment t) = n
 passed_after n (big t) = n
 passed_after n (superior t) = n
 passed_after n (bar bytes) = n + 1
 
-abbrev content_of : Chart → ℕ → Content
-content_of c n = record { levels = levels_of c; passed = n }
+abbrev content : Chart → ℕ → Content
+content c n = record { levels = levels_of c; passed = n }
 
-passed_stored : (d : Content) (r : Record) → (append d r).passed ≡ passed_after d.passed r
+passed_stored : (d : Content) (r : rules.Record) → (append d r).passed ≡ passed_after d.passed r
 unfolding append
 passed_stored d (stroke s) = refl
 passed_stored d (segment t) = refl
@@ -161,10 +145,10 @@ passed_stored d (big t) = refl
 passed_stored d (superior t) = refl
 passed_stored d (bar bytes) = omega arith
 
-content_stored : (c : Chart) (n : ℕ) (r : Record) → Room c r → append (content_of c n) r ≡ content_of (stored c r) (passed_after n r)
-content_stored c n r h = rw (levels-stored c n r h, ← passed_stored (content_of c n) r)
+content_stored : (c : Chart) (n : ℕ) (r : rules.Record) → Room c r → append (content c n) r ≡ content (stored c r) (passed_after n r)
+content_stored c n r h = rw (levels-stored c n r h, ← passed_stored (content c n) r)
 
-passed_few : (n at to : ℕ) (r : Record) → n ≤ at → at < to → passed_after n r ≤ to
+passed_few : (n at to : ℕ) (r : rules.Record) → n ≤ at → at < to → passed_after n r ≤ to
 passed_few n at to (stroke s) h l = omega arith
 passed_few n at to (segment t) h l = omega arith
 passed_few n at to (big t) h l = omega arith
@@ -177,7 +161,7 @@ pub record Reached (bytes : List ℕ) (c : Chart) (passed at : ℕ) : Type 0 whe
   pub sized : Sized c
   pub few : Counted c
   pub fewer : passed ≤ at
-  pub left : read_from at (content_of c passed) 0 (drop at bytes) ≡ read_file bytes
+  pub left : read_from at (content c passed) 0 (drop at bytes) ≡ read_file bytes
 
 pub begins :
     (bytes : List ℕ) (c : Chart) → Sized c → c.stroke_count ≡ 0 → c.segment_count ≡ 0 → c.big_count ≡ 0 → c.superior_count ≡ 0
@@ -187,51 +171,46 @@ begins bytes c z s g b u =
     let few : Counted c = record { strokes = omega arith; segments = omega arith; bigs = omega arith; superiors = omega arith } in
     record { sized = z; few = few; fewer = omega arith; left = rw (s, g, b, u) }
 
--- the record that a head is, with the bytes behind its mark at a place
-abbrev pub answer_at : List ℕ → ℕ → Head → Answer Record
-answer_at bytes at o = answer_of o (drop 2 (take (length bytes - at) (drop at bytes)))
+-- the answer that a result of the code stands for, with the bytes behind the mark at a place
+abbrev pub answer_here : List ℕ → ℕ → Result Record Refusal → Answer rules.Record
+answer_here bytes at o = answer_of (record_by (drop 2 (take (length bytes - at) (drop at bytes)))) o
 
 -- a turn, where o is the record at the place, or its refusal
-pub record Turn (bytes : List ℕ) (c : Chart) (passed at : ℕ) (o : Head) : Type 0 where
+pub record Turn (bytes : List ℕ) (c : Chart) (passed at : ℕ) (o : Result Record Refusal) : Type 0 where
   pub reached : Reached bytes c passed at
   pub more : at < length bytes
-  pub called : answer_at bytes at o ≡ read_record (full_by (countsOf c)) (take (length bytes - at) (drop at bytes))
+  pub called : answer_here bytes at o ≡ read_record (full_by c) (take (length bytes - at) (drop at bytes))
 
-module _ {bytes : List ℕ} {c : Chart} {passed at : ℕ} {o : Head} (w : Turn bytes c passed at o) where
-  by-counts : (a : Answer Record) → answer_at bytes at o ≡ a → read_record (full_by (countsOf c)) (drop at bytes) ≡ a
-  by-counts a e = ap (read_record (full_by (countsOf c))) (sym (part bytes at)) ∙ sym w.called ∙ e
+pub turn :
+    {bytes : List ℕ} {c : Chart} {passed at : ℕ} {o : Result Record Refusal} → Reached bytes c passed at → at < length bytes
+    → answer_here bytes at o ≡ read_record (full_by c) (take (length bytes - at) (drop at bytes)) → Turn bytes c passed at o
+turn i m h = record { reached = i; more = m; called = h }
 
-  by-content : (a : Answer Record) → answer_at bytes at o ≡ a → read_record (full (levels_of c)) (drop at bytes) ≡ a
+module _ {bytes : List ℕ} {c : Chart} {passed at : ℕ} {o : Result Record Refusal} (w : Turn bytes c passed at o) where
+  by-counts : (a : Answer rules.Record) → answer_here bytes at o ≡ a → read_record (full_by c) (drop at bytes) ≡ a
+  by-counts a e = ap (read_record (full_by c)) (sym (part bytes at)) ∙ sym w.called ∙ e
+
+  by-content : (a : Answer rules.Record) → answer_here bytes at o ≡ a → read_record (full (levels_of c)) (drop at bytes) ≡ a
   by-content a e =
-      let i = w.reached in
-      sym (same_full (full_by (countsOf c)) (full (levels_of c)) (drop at bytes) (agree c i.sized i.few)) ∙ by-counts a e
+      let i = w.reached in sym (same_full (full_by c) (full (levels_of c)) (drop at bytes) (agree c i.sized i.few)) ∙ by-counts a e
 
   -- a refusal ends the scan
-  pub stops : (k : ℕ) → o ≡ head.Refused k → (d : Chart) → loaded k at d 0 ≡ read_file bytes
-  unfolding loaded
-  stops k e d =
-      let same = ap (answer_at bytes at) e in
-      number k (refused_above (full_by (countsOf c)) (drop at bytes) k (by-counts (refused k) same))
-      ∙ sym (at_refused at (content_of c passed) bytes k w.more (by-content (refused k) same))
-      ∙ w.reached.left
-    where
-      number : (k : ℕ) → 0 < k → loaded k at d 0 ≡ refused (record { number = k; place = at })
-      number zero h = absurd (omega arith)
-      number (suc k) h = refl
+  pub stops : (k : Refusal) → o ≡ Err k → refused (record { number = number_of k; place = at }) ≡ read_file bytes
+  stops k e =
+      let same = ap (answer_here bytes at) e in
+      sym (at_refused at (content c passed) bytes (number_of k) w.more (by-content (refused (number_of k)) same)) ∙ w.reached.left
 
-  -- the record that is read; of a triple the level is known
-  pub stroke-is : (s : Stroke) → o ≡ head.Stroke s → answer_at bytes at o ≡ given (stroke s)
-  stroke-is s e = ap (answer_at bytes at) e
-
-  pub triple-is : (l k : Level) (t : Triple) → o ≡ head.Triple l t → l ≡ k → answer_at bytes at o ≡ given (triple_by k t)
-  triple-is l k t e f = rw (e, f)
+  -- the record that is read
+  pub read :
+      (r q : Record) → o ≡ Ok r → r ≡ q → answer_here bytes at o ≡ given (record_by (drop 2 (take (length bytes - at) (drop at bytes))) q)
+  read r q e f = ap (answer_here bytes at) (e ∙ ap Ok f)
 
   -- it has a place, and is stored there
-  pub has_place : (r : Record) → answer_at bytes at o ≡ given r → Free c r
-  has_place r e = free c r (accepted (full_by (countsOf c)) (drop at bytes) r (by-counts (given r) e)).place
+  pub has_place : (r : rules.Record) → answer_here bytes at o ≡ given r → Free c r
+  has_place r e = free c r (accepted (full_by c) (drop at bytes) r (by-counts (given r) e)).place
 
   pub goes_on :
-      (r : Record) → answer_at bytes at o ≡ given r → (to : ℕ) → to ≡ at + suc (suc (width (kind r)))
+      (r : rules.Record) → answer_here bytes at o ≡ given r → (to : ℕ) → to ≡ at + suc (suc (width (kind r)))
       → Reached bytes (stored c r) (passed_after passed r) to
   goes_on r e to t =
       let i = w.reached in
@@ -242,20 +221,36 @@ module _ {bytes : List ℕ} {c : Chart} {passed at : ℕ} {o : Head} (w : Turn b
         fewer = passed_few passed at to r i.fewer (omega arith);
         left =
             rw (t, ← content_stored c passed r (room c r i.sized f))
-            (sym (at_given at (content_of c passed) bytes r (by-content (given r) e)) ∙ i.left);
+            (sym (at_given at (content c passed) bytes r (by-content (given r) e)) ∙ i.left);
       }
 
-  -- a stroke has 21 bytes behind either mark
-  pub goes-on-stroke : (s : Stroke) → answer_at bytes at o ≡ given (stroke s) → Reached bytes (stored c (stroke s)) passed (at + 23)
+  -- a stroke has 21 bytes behind either mark, a triple 5
+  pub goes-on-stroke : (s : Stroke) → answer_here bytes at o ≡ given (stroke s) → Reached bytes (stored c (stroke s)) passed (at + 23)
   unfolding width
   goes-on-stroke s e = goes_on (stroke s) e (at + 23) (omega (arith, stroke-kind width 21 refl refl s))
 
+  pub goes-on-segment : (t : Triple) → answer_here bytes at o ≡ given (segment t) → Reached bytes (stored c (segment t)) passed (at + 7)
+  unfolding width kind
+  goes-on-segment t e = goes_on (segment t) e (at + 7) refl
+
+  pub goes-on-big : (t : Triple) → answer_here bytes at o ≡ given (big t) → Reached bytes (stored c (big t)) passed (at + 7)
+  unfolding width kind
+  goes-on-big t e = goes_on (big t) e (at + 7) refl
+
+  pub goes-on-superior : (t : Triple) → answer_here bytes at o ≡ given (superior t) → Reached bytes (stored c (superior t)) passed (at + 7)
+  unfolding width kind
+  goes-on-superior t e = goes_on (superior t) e (at + 7) refl
+
   -- a bar is passed over
-  pub goes_over : o ≡ head.Bar → Reached bytes c (passed + 1) (at + 18)
+  pub goes_over :
+      answer_here bytes at o ≡ given (record_in BR (drop 2 (take (length bytes - at) (drop at bytes)))) → Reached bytes c (passed + 1) (at + 18)
   unfolding record_in width kind
-  goes_over e = goes_on (record_in BR (drop 2 (take (length bytes - at) (drop at bytes)))) (ap (answer_at bytes at) e) (at + 18) refl
+  goes_over e = goes_on (record_in BR (drop 2 (take (length bytes - at) (drop at bytes)))) e (at + 18) refl
 
 -- the end of the file
-pub ends : (bytes : List ℕ) (c : Chart) (passed at : ℕ) → Reached bytes c passed at → length bytes ≤ at → loaded 0 0 c passed ≡ read_file bytes
-unfolding loaded
-ends bytes c passed at i h = rw (counted-fits c i.few) (sym (at-end at (content_of c passed) bytes h) ∙ i.left)
+module _ {bytes : List ℕ} {c : Chart} {passed at : ℕ} (i : Reached bytes c passed at) where
+  pub ends : length bytes ≤ at → given (content c passed) ≡ read_file bytes
+  ends h = sym (at-end at (content c passed) bytes h) ∙ i.left
+
+  pub fits : overfull c ≡ false
+  fits = counted-fits c i.few

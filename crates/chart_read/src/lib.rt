@@ -2,279 +2,212 @@
 
 #![tactic(auto)]
 
-ghost use Rattle.std.specs.Prelude.{◌≡◌, ◌≤◌, length, drop};
-ghost use Rattle.rules.specs.File.{kind_of, width, read_record, read_file};
-ghost use Rattle.chart_read.specs.Loaded.{loaded};
-ghost use Rattle.chart_read.specs.Heads.{level_kind, stroke_kind, roll_by, kind_by, marked_by, answer_of, checked, full_by};
+ghost use Rattle.std.specs.Prelude.{◌≡◌, ◌≤◌, ℕ, List, length, drop, false, Ok};
+ghost use Rattle.chart.specs.Numbers.{number_in};
+ghost use Rattle.rules.specs.Answer.{answer_of, answer_at};
+ghost use Rattle.rules.specs.Refusals.{refuse, above_one, overfull};
+ghost use Rattle.rules.specs.File.{kind_of, width, record_in, field_refusal, read_record, read_file};
+ghost use Rattle.chart_read.specs.declared.Loaded.{Loaded};
+ghost use Rattle.chart_read.specs.Heads.{kind_by, marked_by, record_by, full_by, content_of};
 
-use chart::{Chart, Stroke, Triple};
+use chart::{Chart, Refusal, RefusedAt, Stroke, Triple};
 
-// A number, 0 where the file is accepted; the place of the refused record's mark, 0 where none is refused. The chart, which beside a
-// refusal is free, and how many BR records were passed over, 0 beside a refusal.
+// The chart of a file, and how many BR records were passed over.
 #[derive(Clone, Copy)]
 pub struct Loaded {
-    pub number: u8,
-    pub place: usize,
     pub chart: Chart,
     pub passed: usize,
 }
 
-// The levels above the strokes, whose records are triples.
+// The marks ST, SR, SG, BG, SU and BR.
 #[derive(Clone, Copy)]
-enum Level {
+enum Mark {
+    Stroke,
+    Rolled,
     Segment,
     Big,
     Superior,
-}
-
-// The kinds of record. Whether a stroke is rolled its mark tells.
-#[derive(Clone, Copy)]
-enum Mark {
-    Stroke(bool),
-    Triple(Level),
     Bar,
 }
 
-// What two bytes mark.
+// A record. A bar's bytes are not looked at.
 #[derive(Clone, Copy)]
-enum MarkRead {
-    Mark(Mark),
-    NoMark,
-}
-
-// The record at the head of some bytes, or the number of its refusal. A bar's bytes are not looked at.
-#[derive(Clone, Copy)]
-enum Head {
-    Refused(u8),
+enum Record {
     Stroke(Stroke),
-    Triple(Level, Triple),
+    Segment(Triple),
+    Big(Triple),
+    Superior(Triple),
     Bar,
 }
 
-// How many records of each level there are.
-#[derive(Clone, Copy)]
-struct Counts {
-    strokes: u16,
-    segments: u16,
-    bigs: u16,
-    superiors: u16,
+impl Mark {
+    // The mark that two bytes are.
+    #[tactic(auto, unfolding(rules::specs::File::kind_of, rules::specs::File::is_mark, rules::specs::File::mark_of, rules::specs::Text::ascii))]
+    fn of(a: u8, b: u8) -> Option<Mark>
+        ensures { marked_by result ≡ kind_of a b }
+    {
+        match (a, b) {
+            (b'S', b'T') => Some(Mark::Stroke),
+            (b'S', b'R') => Some(Mark::Rolled),
+            (b'S', b'G') => Some(Mark::Segment),
+            (b'B', b'G') => Some(Mark::Big),
+            (b'S', b'U') => Some(Mark::Superior),
+            (b'B', b'R') => Some(Mark::Bar),
+            _ => None,
+        }
+    }
+
+    // How many bytes a record has behind its mark.
+    #[tactic(auto, unfolding(rules::specs::File::width))]
+    fn width(self) -> usize
+        ensures { result ≡ width (kind_by self) }
+    {
+        match self {
+            Mark::Stroke | Mark::Rolled => 21,
+            Mark::Segment | Mark::Big | Mark::Superior => 5,
+            Mark::Bar => 16,
+        }
+    }
+
+    // Whether a chart has no place for one more: strokes have theirs together, rolled or not, and a bar takes none.
+    #[tactic(auto, unfolding(crate::specs::Heads::full_by))]
+    fn is_full(self, chart: &Chart) -> bool
+        ensures { result ≡ full_by chart.now (kind_by self) }
+    {
+        match self {
+            Mark::Stroke | Mark::Rolled => 512 <= chart.stroke_count,
+            Mark::Segment => 256 <= chart.segment_count,
+            Mark::Big => 256 <= chart.big_count,
+            Mark::Superior => 256 <= chart.superior_count,
+            Mark::Bar => false,
+        }
+    }
+
+    // The record in the bytes behind the mark.
+    #[tactic(auto, unfolding(rules::specs::File::width, rules::specs::File::record_in))]
+    fn record_in(self, s: &[u8]) -> Record
+        requires { width (kind_by self) ≤ length s.now }
+        ensures { record_by s.now result ≡ record_in (kind_by self) s.now }
+    {
+        match self {
+            Mark::Stroke => Record::Stroke(fields::stroke_in(s, 0)),
+            Mark::Rolled => Record::Stroke(fields::stroke_in(s, 1)),
+            Mark::Segment => Record::Segment(fields::triple_in(s)),
+            Mark::Big => Record::Big(fields::triple_in(s)),
+            Mark::Superior => Record::Superior(fields::triple_in(s)),
+            Mark::Bar => Record::Bar,
+        }
+    }
+}
+
+// A direction above 1.
+#[tactic(auto, unfolding(rules::specs::Refusals::above_one, rules::specs::Refusals::refuse))]
+fn test_direction(direction: u8) -> Result<(), Refusal>
+    ensures { number_in result ≡ refuse (above_one direction) 2 0 }
+{
+    if 1 < direction {
+        return Err(Refusal::Above);
+    }
+    Ok(())
+}
+
+impl Record {
+    // A direction above 1, or a price that isn't one.
+    #[tactic(auto, unfolding(rules::specs::File::field_refusal, rules::specs::File::record_in, rules::specs::Refusals::bad_prices, rules::specs::Refusals::refuse))]
+    fn test(self) -> Result<(), Refusal>
+        ensures { (s : List ℕ) → number_in result ≡ field_refusal (record_by s self) }
+    {
+        match self {
+            Record::Stroke(s) => {
+                test_direction(s.direction)?;
+                if price::wrong_prices(s.start_price, s.end_price) {
+                    return Err(Refusal::Price);
+                }
+                Ok(())
+            }
+            Record::Segment(t) | Record::Big(t) | Record::Superior(t) => test_direction(
+                t.direction,
+            ),
+            Record::Bar => Ok(()),
+        }
+    }
 }
 
 // A chart with no record.
 fn no_chart() -> Chart
     ensures { (result.stroke_count ≡ 0) × (result.segment_count ≡ 0) × (result.big_count ≡ 0) × (result.superior_count ≡ 0) }
 {
-    let strokes = [chart::NO_STROKE; 512];
-    let triples = [chart::NO_TRIPLE; 256];
     Chart {
-        strokes: strokes,
+        strokes: [chart::NO_STROKE; 512],
         stroke_count: 0,
-        segments: triples,
+        segments: [chart::NO_TRIPLE; 256],
         segment_count: 0,
-        bigs: triples,
+        bigs: [chart::NO_TRIPLE; 256],
         big_count: 0,
-        superiors: triples,
+        superiors: [chart::NO_TRIPLE; 256],
         superior_count: 0,
     }
 }
 
-// The kind that two bytes mark.
-fn mark_of(a: u8, b: u8) -> MarkRead
-    ensures { marked_by result ≡ kind_of a b }
+// The record at the head of some bytes, which a chart has a place for.
+fn record_at(s: &[u8], chart: &Chart) -> Result<Record, Refusal>
+    ensures { answer_of (record_by (drop 2 s.now)) result ≡ read_record (full_by chart.now) s.now }
 {
-    if a == b'B' {
-        if b == b'R' {
-            return MarkRead::Mark(Mark::Bar);
-        }
-        if b == b'G' {
-            return MarkRead::Mark(Mark::Triple(Level::Big));
-        }
-        return MarkRead::NoMark;
-    }
-    if a == b'S' {
-        if b == b'T' {
-            return MarkRead::Mark(Mark::Stroke(false));
-        }
-        if b == b'R' {
-            return MarkRead::Mark(Mark::Stroke(true));
-        }
-        if b == b'G' {
-            return MarkRead::Mark(Mark::Triple(Level::Segment));
-        }
-        if b == b'U' {
-            return MarkRead::Mark(Mark::Triple(Level::Superior));
-        }
-    }
-    MarkRead::NoMark
-}
-
-// How many bytes a record has behind its mark.
-fn width_of(m: Mark) -> usize
-    ensures { result ≡ width (kind_by m) }
-{
-    match m {
-        Mark::Stroke(_) => 21,
-        Mark::Triple(_) => 5,
-        Mark::Bar => 16,
-    }
-}
-
-// Whether there is no place for one more triple of a level.
-fn level_full(counts: Counts, l: Level) -> bool
-    ensures { result ≡ full_by counts (level_kind l) }
-{
-    match l {
-        Level::Segment => 256 <= counts.segments,
-        Level::Big => 256 <= counts.bigs,
-        Level::Superior => 256 <= counts.superiors,
-    }
-}
-
-// Whether there is no place for one more of a kind: strokes have theirs together, rolled or not. A bar takes none.
-fn is_full(counts: Counts, m: Mark) -> bool
-    ensures { result ≡ full_by counts (kind_by m) }
-{
-    match m {
-        Mark::Stroke(_) => 512 <= counts.strokes,
-        Mark::Triple(l) => level_full(counts, l),
-        Mark::Bar => false,
-    }
-}
-
-// The triple of a level in the bytes behind a mark, where its direction is one.
-fn checked_triple(s: &[u8], l: Level) -> Head
-    requires { 5 ≤ length s.now }
-    ensures { answer_of result s.now ≡ checked (level_kind l) s.now }
-{
-    let triple = fields::triple_in(s);
-    if 1 < triple.direction {
-        return Head::Refused(2);
-    }
-    Head::Triple(l, triple)
-}
-
-// The roll byte of a stroke.
-fn roll_of(rolled: bool) -> u8
-    ensures { result ≡ roll_by rolled }
-{
-    if rolled { 1 } else { 0 }
-}
-
-// The stroke, where its direction and its prices are.
-fn checked_stroke(s: &[u8], rolled: bool) -> Head
-    requires { 21 ≤ length s.now }
-    ensures { answer_of result s.now ≡ checked (stroke_kind rolled) s.now }
-{
-    let stroke = fields::stroke_in(s, roll_of(rolled));
-    if 1 < stroke.direction {
-        return Head::Refused(2);
-    }
-    if price::wrong_prices(stroke.start_price, stroke.end_price) {
-        return Head::Refused(1);
-    }
-    Head::Stroke(stroke)
-}
-
-// The record of a kind.
-fn checked_record(s: &[u8], m: Mark) -> Head
-    requires { width (kind_by m) ≤ length s.now }
-    ensures { answer_of result s.now ≡ checked (kind_by m) s.now }
-{
-    match m {
-        Mark::Stroke(rolled) => checked_stroke(s, rolled),
-        Mark::Triple(l) => checked_triple(s, l),
-        Mark::Bar => Head::Bar,
-    }
-}
-
-// The record at the head of some bytes.
-fn head_of(s: &[u8], counts: Counts) -> Head
-    ensures { answer_of result (drop 2 s.now) ≡ read_record (full_by counts) s.now }
-{
-    if s.len() < 2 {
-        return Head::Refused(13);
-    }
-    let MarkRead::Mark(m) = mark_of(s[0], s[1]) else {
-        return Head::Refused(12);
+    let [a, b, behind @ ..] = s else {
+        return Err(Refusal::Cut);
     };
-    let cut = s.len() - 2 < width_of(m);
-    let full = is_full(counts, m);
-    if cut {
-        return Head::Refused(13);
+    let mark = Mark::of(*a, *b).ok_or(Refusal::Mark)?;
+    if behind.len() < mark.width() {
+        return Err(Refusal::Cut);
     }
-    if full {
-        return Head::Refused(3);
+    if mark.is_full(chart) {
+        return Err(Refusal::Full);
     }
-    checked_record(&s[2..], m)
-}
-
-// A refusal holds no chart, and nothing passed over.
-pub fn refusal(number: u8, place: usize) -> Loaded
-    ensures { (result.number ≡ number) × (result.place ≡ place) × (result.passed ≡ 0) }
-{
-    Loaded {
-        number: number,
-        place: place,
-        chart: no_chart(),
-        passed: 0,
-    }
+    let record = mark.record_in(behind);
+    record.test()?;
+    Ok(record)
 }
 
 // The chart of a file. Its BR records are passed over, their bytes unexamined, and counted.
-pub fn read_chart(bytes: &[u8]) -> Loaded
-    ensures { loaded result.number result.place result.chart result.passed ≡ read_file bytes.now }
+pub fn read_chart(bytes: &[u8]) -> Result<Loaded, RefusedAt>
+    ensures chart_value { answer_at content_of result ≡ read_file bytes.now }
+    ensures chart_fits { (l : Loaded) → result ≡ Ok l → overfull l.chart ≡ false }
 {
     let mut chart = no_chart();
     let mut passed = 0usize;
     let mut at = 0usize;
+    // Records are of different lengths: each says where the next one begins.
     while at < bytes.len() {
-        let counts = Counts {
-            strokes: chart.stroke_count,
-            segments: chart.segment_count,
-            bigs: chart.big_count,
-            superiors: chart.superior_count,
+        let record = match record_at(&bytes[at..], &chart) {
+            Ok(record) => record,
+            Err(refusal) => return Err(RefusedAt { refusal, place: at }),
         };
-        let head = head_of(&bytes[at..], counts);
-        match head {
-            Head::Refused(number) => {
-                return refusal(number, at);
-            }
-            Head::Stroke(s) => {
-                let k = chart.stroke_count as usize;
-                chart.strokes[k] = s;
+        match record {
+            Record::Stroke(s) => {
+                chart.strokes[chart.stroke_count as usize] = s;
                 chart.stroke_count += 1;
                 at += 23;
             }
-            Head::Triple(l, t) => {
+            Record::Segment(t) => {
+                chart.segments[chart.segment_count as usize] = t;
+                chart.segment_count += 1;
                 at += 7;
-                match l {
-                    Level::Segment => {
-                        let k = chart.segment_count as usize;
-                        chart.segments[k] = t;
-                        chart.segment_count += 1;
-                    }
-                    Level::Big => {
-                        let k = chart.big_count as usize;
-                        chart.bigs[k] = t;
-                        chart.big_count += 1;
-                    }
-                    Level::Superior => {
-                        let k = chart.superior_count as usize;
-                        chart.superiors[k] = t;
-                        chart.superior_count += 1;
-                    }
-                }
             }
-            Head::Bar => {
+            Record::Big(t) => {
+                chart.bigs[chart.big_count as usize] = t;
+                chart.big_count += 1;
+                at += 7;
+            }
+            Record::Superior(t) => {
+                chart.superiors[chart.superior_count as usize] = t;
+                chart.superior_count += 1;
+                at += 7;
+            }
+            Record::Bar => {
                 passed += 1;
                 at += 18;
             }
         }
     }
-    Loaded {
-        number: 0,
-        place: 0,
-        chart: chart,
-        passed: passed,
-    }
+    Ok(Loaded { chart, passed })
 }

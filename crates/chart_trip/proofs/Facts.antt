@@ -16,6 +16,11 @@ use Rattle.rules.specs.File as file
 use Rattle.rules.proofs.Computing.{everything}
 use Rattle.rules.proofs.Charts.{turn, triple, stroke, with_roll, strokes_of, levels, counted}
 use Rattle.chart_trip.specs.Trip.{trip_call}
+use Rattle.std.specs.Prelude.{Ok, Err}
+use Rattle.std.specs.declared.result.Result.{Result}
+use Rattle.chart.specs.declared.Refusal.{Refusal}
+use Rattle.chart.specs.Numbers.{number_in}
+use Rattle.laws.proofs.Answers.{positive}
 use Rattle.chart_trip.specs.Same.{Writing, refusal_of, same_refusal, file_after, Compared}
 
 -- no records, but a count of strokes
@@ -68,31 +73,36 @@ pub record Facts : Type 0 where
   pub second_3 : same_refusal (one_stroke 23) (one_stroke 22) ≡ 3
   pub neither : same_refusal (one_stroke 23) (one_stroke 24) ≡ 0
   -- equal charts, whatever lies behind a count, are not told apart
-  pub equal : (f g : List ℕ) → Compared (writing (up_to 0 1) 0) (writing (up_to 0 2) 0) 0 false f g → ⊥
+  pub equal : (f g : List ℕ) → Compared (writing (up_to 0 1) 0) (writing (up_to 0 2) 0) (Ok false) f g → ⊥
   -- another stroke, roll byte or superior is not called the same
-  pub other_stroke : (f g : List ℕ) → Compared (writing (up_to 1 1) 0) (writing (up_to 1 2) 0) 0 true f g → ⊥
-  pub other_roll : (f g : List ℕ) → Compared (writing (chart_by 0) 0) (writing (chart_by 1) 0) 0 true f g → ⊥
-  pub other_superior : (f g : List ℕ) → Compared (writing (superior_to 1) 0) (writing (superior_to 2) 0) 0 true f g → ⊥
-  -- `same` tells of the files, not of the charts alone
+  pub other_stroke : (f g : List ℕ) → Compared (writing (up_to 1 1) 0) (writing (up_to 1 2) 0) (Ok true) f g → ⊥
+  pub other_roll : (f g : List ℕ) → Compared (writing (chart_by 0) 0) (writing (chart_by 1) 0) (Ok true) f g → ⊥
+  pub other_superior : (f g : List ℕ) → Compared (writing (superior_to 1) 0) (writing (superior_to 2) 0) (Ok true) f g → ⊥
+  -- what is given tells of the files, not of the charts alone
   pub tells :
-      (v w : Writing) (same : Bool) (f g : List ℕ) → Compared v w 0 same f g
+      (v w : Writing) (same : Bool) (f g : List ℕ) → Compared v w (Ok same) f g
       → let x = written (levels_of v.chart) in
       let y = written (levels_of w.chart) in
       (same ≡ true → x ≡ y) × (x ≡ y → same ≡ true)
-  -- where the second is refused, its number is told, nothing is called the same and the first buffer is as it was found; and the other way round
+  -- where the second is refused, its number is told and the first buffer is as it was found; and the other way round
   pub second_refused :
-      (number : ℕ) (same : Bool) (f g : List ℕ) → Compared (one_stroke 23) (one_stroke 22) number same f g
-      → (number ≡ 3) × (same ≡ false) × (f ≡ replicate 23 9) × (g ≡ replicate 22 9)
+      (answer : Result Bool Refusal) (f g : List ℕ) → Compared (one_stroke 23) (one_stroke 22) answer f g
+      → (number_in answer ≡ 3) × (f ≡ replicate 23 9) × (g ≡ replicate 22 9)
   pub first_refused :
-      (number : ℕ) (same : Bool) (f g : List ℕ) → Compared (one_stroke 22) (one_stroke 23) number same f g
-      → (number ≡ 3) × (same ≡ false) × (f ≡ replicate 22 9) × (g ≡ replicate 23 9)
+      (answer : Result Bool Refusal) (f g : List ℕ) → Compared (one_stroke 22) (one_stroke 23) answer f g
+      → (number_in answer ≡ 3) × (f ≡ replicate 22 9) × (g ≡ replicate 23 9)
   -- where neither is, each buffer holds its file and keeps what is behind
   pub both_written :
-      (number : ℕ) (same : Bool) (f g : List ℕ) → Compared (one_stroke 23) (one_stroke 24) number same f g
-      → (number ≡ 0) × (same ≡ true) × (f ≡ stroke_file) × (g ≡ stroke_file ++ (9 ∷ []))
+      (answer : Result Bool Refusal) (f g : List ℕ) → Compared (one_stroke 23) (one_stroke 24) answer f g
+      → (answer ≡ Ok true) × (f ≡ stroke_file) × (g ≡ stroke_file ++ (9 ∷ []))
 
 after : {n m : ℕ} {f : List ℕ} (w : Writing) → f ≡ file_after n w → n ≡ m → f ≡ file_after m w
 after w h e = h ∙ ap (λ (i : ℕ). file_after i w) e
+
+-- what is not refused is given
+gives : (answer : Result Bool Refusal) → number_in answer ≡ 0 → (same : Bool) × (answer ≡ Ok same)
+gives (Ok same) e = (same, refl)
+gives (Err k) e = absurd (omega (arith, e, positive k))
 
 pub facts : Facts
 unfolding everything trip_call refusal_of same_refusal file_after
@@ -110,33 +120,33 @@ facts =
       second_21 = refl;
       second_3 = refl;
       neither = refl;
-      equal = λ f g k. false≢true (k.if_equal refl refl);
+      equal = λ f g k. false≢true (k.if_equal false refl refl);
       other_stroke =
           λ f g k.
-          let z : ◌≡◌ {A = ℕ} 1 2 = ap (λ (c : Levels). get_or (map (λ (s : Stroke). s.end_bar) c.strokes) 0 0) (k.only_if_equal refl refl) in
+          let z : ◌≡◌ {A = ℕ} 1 2 = ap (λ (c : Levels). get_or (map (λ (s : Stroke). s.end_bar) c.strokes) 0 0) (k.only_if_equal refl) in
           omega arith;
       other_roll =
           λ f g k.
-          let z : ◌≡◌ {A = ℕ} 0 1 = ap (λ (c : Levels). get_or (map (λ (s : Stroke). s.roll) c.strokes) 0 0) (k.only_if_equal refl refl) in
+          let z : ◌≡◌ {A = ℕ} 0 1 = ap (λ (c : Levels). get_or (map (λ (s : Stroke). s.roll) c.strokes) 0 0) (k.only_if_equal refl) in
           omega arith;
       other_superior =
           λ f g k.
-          let z : ◌≡◌ {A = ℕ} 1 2 = ap (λ (c : Levels). get_or (map (λ (t : Triple). t.last) c.superiors) 0 0) (k.only_if_equal refl refl) in
+          let z : ◌≡◌ {A = ℕ} 1 2 = ap (λ (c : Levels). get_or (map (λ (t : Triple). t.last) c.superiors) 0 0) (k.only_if_equal refl) in
           omega arith;
       tells =
           λ v w same f g k.
           let s = k.files refl in
-          (λ t. s.forth (k.only_if_equal refl t), λ t. k.if_equal refl (s.back t));
+          (λ t. s.forth (k.only_if_equal (ap Ok t)), λ t. k.if_equal same refl (s.back t));
       second_refused =
-          λ number same f g k.
-          let e : number ≡ 3 = k.number_is in
-          (e, k.beside_refusal (λ z. omega (arith, e, z)), after (one_stroke 23) k.first_is e, after (one_stroke 22) k.second_is e);
+          λ answer f g k.
+          let e : number_in answer ≡ 3 = k.number_is in (e, after (one_stroke 23) k.first_is e, after (one_stroke 22) k.second_is e);
       first_refused =
-          λ number same f g k.
-          let e : number ≡ 3 = k.number_is in
-          (e, k.beside_refusal (λ z. omega (arith, e, z)), after (one_stroke 22) k.first_is e, after (one_stroke 23) k.second_is e);
+          λ answer f g k.
+          let e : number_in answer ≡ 3 = k.number_is in (e, after (one_stroke 22) k.first_is e, after (one_stroke 23) k.second_is e);
       both_written =
-          λ number same f g k.
-          let e : number ≡ 0 = k.number_is in
-          (e, k.if_equal e refl, after (one_stroke 23) k.first_is e, after (one_stroke 24) k.second_is e);
+          λ answer f g k.
+          let e : number_in answer ≡ 0 = k.number_is in
+          let same = gives answer e in
+          let is : same.0 ≡ true = k.if_equal same.0 same.1 refl in
+          (same.1 ∙ ap Ok is, after (one_stroke 23) k.first_is e, after (one_stroke 24) k.second_is e);
     }

@@ -1,4 +1,4 @@
-pub mod Narrow
+pub mod Owned
 pub mod Trip
 pub mod Files
 pub mod Facts

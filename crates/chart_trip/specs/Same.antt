@@ -1,5 +1,8 @@
 -- Two charts that are written, and whose files are compared. Assumes nothing.
-use Rattle.std.specs.Prelude.{ℕ, zero, suc, ◌≡◌, Bool, true, false, List}
+use Rattle.std.specs.Prelude.{ℕ, zero, suc, ◌≡◌, Bool, true, List, Ok}
+use Rattle.std.specs.declared.result.Result.{Result}
+use Rattle.chart.specs.declared.Refusal.{Refusal}
+use Rattle.chart.specs.Numbers.{number_in}
 use Rattle.chart.specs.declared.Chart.{Chart}
 use Rattle.rules.specs.Records.{levels_of}
 use Rattle.rules.specs.File.{write_refusal, buffer_after}
@@ -26,14 +29,13 @@ file_after (suc k) w = w.buffer
 abbrev pub Equal : Writing → Writing → Type 0
 Equal v w = levels_of v.chart ≡ levels_of w.chart
 
--- Two charts compared by their files: the number, whether the files are equal, and both buffers afterwards. "Charts equal in their four levels .. then
--- give equal files, and the reverse", and by request 14 this "now concerns charts alone": where the number is 0, `same` is true exactly if they are.
--- Beside a refusal it is false
-pub record Compared (v w : Writing) (number : ℕ) (same : Bool) (first second : List ℕ) : Type 0 where
-  pub number_is : number ≡ same_refusal v w
-  pub if_equal : number ≡ 0 → Equal v w → same ≡ true
-  pub only_if_equal : number ≡ 0 → same ≡ true → Equal v w
-  pub files : number ≡ 0 → SameFile (levels_of v.chart) (levels_of w.chart)
-  pub beside_refusal : (number ≡ 0 → ⊥) → same ≡ false
-  pub first_is : first ≡ file_after number v
-  pub second_is : second ≡ file_after number w
+-- Two charts compared by their files: the refusal, or whether the files are equal, and both buffers afterwards. "Charts equal in their four levels ..
+-- then give equal files, and the reverse", and by request 14 this "now concerns charts alone": where nothing is refused, what is given is true
+-- exactly if they are
+pub record Compared (v w : Writing) (answer : Result Bool Refusal) (first second : List ℕ) : Type 0 where
+  pub number_is : number_in answer ≡ same_refusal v w
+  pub if_equal : (same : Bool) → answer ≡ Ok same → Equal v w → same ≡ true
+  pub only_if_equal : answer ≡ Ok true → Equal v w
+  pub files : number_in answer ≡ 0 → SameFile (levels_of v.chart) (levels_of w.chart)
+  pub first_is : first ≡ file_after (number_in answer) v
+  pub second_is : second ≡ file_after (number_in answer) w

@@ -1,96 +1,77 @@
--- Questions about the last class, answered by what the walk keeps of it, and an item that is tried: one law for each way through the code.
--- Assumes nothing.
-use Prim.Native.Nat.{ℕ, ◌+◌}
-use native.Mathlib.Numerals.{add-one}
-use mathlib.Core.Path.{◌≡◌, refl}
-use mathlib.Core.Bool.{Bool, true, false, not, ◌&&◌}
-use mathlib.Core.List.{List}
-use mathlib.Core.Option.{Option, none, some}
-use lib.Dec.{eqb}
-use borrow.Author.Tests.{eq-eqb, ne_eqb}
-use Rattle.chart.specs.declared.Class.{Class}
-use Rattle.rules.specs.Classes.{Item, beyond, case3, ends_before, wanted, class_at, tried}
+-- Questions about the last class, answered by what the walk keeps of it, and an item that is tried. Assumes nothing.
+use Rattle.std.proofs.Common.{◌≡◌, ℕ, suc, ◌+◌, Bool, true, false, not, ◌&&◌, eqb, leb, List, Some, None, add-one, arith}
+use Rattle.std.proofs.lemmas.Bool.Decides.{nat_tests}
+use Rattle.std.specs.Prelude.{MatchOption}
+use Rattle.std.specs.declared.option as code
+use Rattle.std.proofs.Math.Option.{none, some}
+use Rattle.chart.specs.Table.{option_of}
+use Rattle.rules.specs.Classes.{Item, beyond, case2, case3, ends_before, wanted, class_at, tried}
 use Rattle.classes.specs.declared.Item as struct
-use Rattle.classes.specs.declared.End.{End}
-use Rattle.classes.specs.declared.End.TheVariants.{At, Nowhere}
 use Rattle.classes.specs.declared.Held.{Held}
-use Rattle.classes.specs.declared.Last.{Last}
-use Rattle.classes.specs.declared.Last.TheVariants.{Begin, After}
-use Rattle.classes.specs.declared.NewClass.TheVariants.{Found, Nothing}
-use Rattle.classes.specs.Items.{item_of, Keeps, LastKept, Answers, Wanted, Case3, EndsBefore, Tries}
+use Rattle.classes.specs.Items.{item_of, class_in, next_in, Kept}
 
-module _ {A : Type 0} (l : Last) (f : List Item → Option Class → A) (r : A) where
-  no_class : l ≡ Begin → ((items : List Item) → r ≡ f items none) → Answers l f r
-  no_class e h items none s = h items
-  no_class e h items (some k) s = absurd (rw e at s)
+leb_zero : (i : ℕ) → leb 0 i ≡ true
+leb_zero i = grind (arith, nat_tests)
 
-  a-class : (h : Held) → l ≡ After h → ((items : List Item) (k : Class) → Keeps items k h → r ≡ f items (some k)) → Answers l f r
-  a-class h e g items none s = absurd (rw e at s)
-  a-class h e g items (some k) s = g items k (rw e at s)
+-- r answers a question about the last class: P says so where there is none, Q of the class
+module _ (r : Bool) {P : Type 0} {Q : Held → Type 0} (last : code.Option.Option Held) (m : MatchOption last P Q) where
+  pub third :
+      (x : struct.Item) → (P → r ≡ false) → ((k : Held) → Q k → r ≡ (not (eqb k.class.direction x.direction) && beyond x.direction x.end k.start))
+      → (items : List Item) → Kept items last → r ≡ case3 items (class_in last) (item_of x)
+  unfolding case3
+  third x f g items s = by last m s
+    where
+      by : (l : code.Option.Option Held) → MatchOption l P Q → Kept items l → r ≡ case3 items (class_in l) (item_of x)
+      by None m s = f m
+      by (Some h) m s = rw (case3, s.there, s.start) (g h m)
 
-module _ (l : Last) (x : struct.Item) where
-  pub wanted-first : l ≡ Begin → Wanted l x true
+  pub tries :
+      (i : ℕ) (x : struct.Item) → (P → r ≡ true) → ((k : Held) → Q k → r ≡ (leb (suc k.class.last) i && not (eqb k.class.direction x.direction)))
+      → r ≡ (leb (next_in last) i && wanted (class_in last) (item_of x))
   unfolding wanted
-  wanted-first e = no_class l _ true e (λ items. refl)
+  tries i x f g = by last m
+    where
+      by : (l : code.Option.Option Held) → MatchOption l P Q → r ≡ (leb (next_in l) i && wanted (class_in l) (item_of x))
+      by None m = rw (leb_zero i) (f m)
+      by (Some h) m = g h m
 
-  pub wanted-after : (h : Held) → l ≡ After h → Wanted l x (not (eqb h.direction x.direction))
-  unfolding wanted
-  wanted-after h e = a-class l _ _ h e (λ items k s. rw s.way)
-
-  pub third-first : l ≡ Begin → Case3 l x false
-  unfolding case3
-  third-first e = no_class l _ false e (λ items. refl)
-
-  pub third-same : (h : Held) → l ≡ After h → h.direction ≡ x.direction → Case3 l x false
-  unfolding case3
-  third-same h e d = a-class l _ false h e (λ items k s. rw (case3, s.there, s.way, eq-eqb _ _ d))
-
-  pub third-other :
-      (h : Held) (r : Bool) → l ≡ After h → (h.direction ≡ x.direction → ⊥) → r ≡ beyond x.direction x.end h.start → Case3 l x r
-  unfolding case3
-  third-other h r e d b = a-class l _ r h e (λ items k s. rw (case3, s.there, s.way, s.start, ne_eqb _ _ d) b)
-
-module _ (l : Last) (i : ℕ) where
-  pub before-first : l ≡ Begin → EndsBefore l i false
+-- the end by case 2 of the first item of the last class
+module _ (end : code.Option.Option ℕ) {P : Type 0} {Q : Held → Type 0} (last : code.Option.Option Held) (m : MatchOption last P Q) where
+  pub second-of :
+      (P → end ≡ None) → ((k : Held) → Q k → end ≡ k.second) → (items : List Item) → Kept items last
+      → (i : ℕ) (r : Bool) → r ≡ elim (option_of end) [ none ↦ false | some e ↦ eqb (suc e) i ] → r ≡ ends_before items (class_in last) i
   unfolding ends_before
-  before-first e = no_class l _ false e (λ items. refl)
+  second-of f g items s i r e = by last m s
+    where
+      by : (l : code.Option.Option Held) → MatchOption l P Q → Kept items l → r ≡ ends_before items (class_in l) i
+      by None m s = rw (f m) at e
+      by (Some h) m s = rw (ends_before, ← s.second, ← g h m) e
 
-  pub before-no-end : (h : Held) → l ≡ After h → h.end ≡ Nowhere → EndsBefore l i false
-  unfolding ends_before
-  before-no-end h e n = a-class l _ false h e (λ items k s. rw (ends_before, s.second, n))
+pub ends-at :
+    (end : code.Option.Option ℕ) {P : Type 0} {Q : ℕ → Type 0} → MatchOption end P Q → (i : ℕ) (r : Bool) → (P → r ≡ false)
+    → ((e : ℕ) → Q e → r ≡ eqb (e + 1) i) → r ≡ elim (option_of end) [ none ↦ false | some e ↦ eqb (suc e) i ]
+ends-at None m i r f g = f m
+ends-at (Some e) m i r f g = rw (← add-one e) (g e m)
 
-  pub before-end : (h : Held) (j : ℕ) → l ≡ After h → h.end ≡ At j → EndsBefore l i (eqb (j + 1) i)
-  unfolding ends_before
-  before-end h j e n = a-class l _ _ h e (λ items k s. rw (ends_before, s.second, n, add-one j))
-
--- t: case 3 holds of x, b: the last class's first item has a case 2 that ends before it
+-- ---- an item that is tried: t tells whether case 3 holds, b whether the last class's first item has a case 2 that ends before it
 module _
-    (on : Bool) (l : Last) (i : ℕ) (x : struct.Item) (end : End) (t b : Bool) (third : Case3 l x t) (before : EndsBefore l i b)
+    (on : Bool) (last : code.Option.Option Held) (i : ℕ) (x : struct.Item) (t b : Bool) (items : List Item)
+    (third : t ≡ case3 items (class_in last) (item_of x)) (before : b ≡ ends_before items (class_in last) i)
   where
-    abbrev begun : ℕ → Bool → Class
-    begun e by3 =
-        record { first = i; last = e; direction = x.direction; by_case3 = by3; extended = false; base_adjacent = t && b }
+    pub by-third :
+        (on && t) ≡ true
+        → some (record { first = i; last = i; direction = x.direction; by_case3 = on && t; extended = false; base_adjacent = t && b })
+        ≡ tried on items (class_in last) i (item_of x)
+    unfolding tried class_at
+    by-third o = rw (tried, ← third, o, class_at, ← third, ← before)
 
-    begun-at : (items : List Item) (k : Option Class) → LastKept items k l → (e : ℕ) (by3 : Bool) → begun e by3 ≡ class_at items k i (item_of x) e by3
-    unfolding class_at
-    begun-at items k s e by3 = rw (← third items k s, ← before items k s)
+    pub by-second :
+        (on && t) ≡ false → (e : ℕ) → case2 items i ≡ some e
+        → some (record { first = i; last = e; direction = x.direction; by_case3 = on && t; extended = false; base_adjacent = t && b })
+        ≡ tried on items (class_in last) i (item_of x)
+    unfolding tried class_at
+    by-second o e s = rw (tried, ← third, o, s, class_at, ← third, ← before)
 
-    pub tried-third : (on && t) ≡ true → Tries on l i x end (Found (begun i true))
+    pub by-none : (on && t) ≡ false → case2 items i ≡ none → none ≡ tried on items (class_in last) i (item_of x)
     unfolding tried
-    tried-third o =
-        record {
-          same = λ items k s e. rw (tried, ← third items k s, o, begun-at items k s i true);
-          begins = λ n h w. (refl, refl, h);
-        }
-
-    pub tried-second : (j : ℕ) → (on && t) ≡ false → end ≡ At j → Tries on l i x end (Found (begun j false))
-    unfolding tried
-    tried-second j o n =
-        record {
-          same = λ items k s e. rw (tried, ← third items k s, o, ← e, n, begun-at items k s j false);
-          begins = λ n' h w. (refl, refl, rw n at w);
-        }
-
-    pub tried-none : (on && t) ≡ false → end ≡ Nowhere → Tries on l i x end Nothing
-    unfolding tried
-    tried-none o n = record { same = λ items k s e. rw (tried, ← third items k s, o, ← e, n); begins = λ n h w. tt }
+    by-none o s = rw (tried, ← third, o, s)

@@ -1,81 +1,92 @@
--- Extension: of one class, and of all from the last to the first, one law for each way through the code. Assumes nothing.
-use Prim.Native.Nat.{ℕ, zero, suc, ◌+◌, ◌-◌, ◌≤◌, min}
-use native.Mathlib.Omega.{arith}
-use native.Mathlib.Numerals.{add-one}
-use mathlib.Core.Path.{◌≡◌, refl, ap, sym, ◌∙◌}
-use mathlib.Core.Bool.{Bool, true, false, ◌&&◌}
-use mathlib.Core.List.{List, [], ◌∷◌}
-use mathlib.Core.Option.{some}
-use lib.ListN.{length, get_or, get_elem?, set, take, drop, length-set, drop_of_length-le}
-use lib.Seq.{take-nil, take-take, take-set-le, take-set-lt, drop-set-lt, get_or-set_same, get_or-take}
-use lib.Dec.{eqb}
-use lib.Ieee.{Float}
+-- Extension: of one class, and of all. Assumes nothing.
+use Rattle.std.proofs.Common.{◌≡◌, ℕ, suc, ◌+◌, ◌-◌, ◌<◌, ◌≤◌, min, Bool, true, false, ltb, List, [], ◌∷◌, ◌++◌, length, get_or, take, drop, refl}
+use Rattle.std.proofs.Common.{sym, ◌∙◌, arith, add-one, length-drop, append_assoc, append-nil, Bor, Some, None}
+use Rattle.std.specs.Slice.{IsItemAt}
+use Rattle.std.specs.Prelude.{Float, MatchOption}
+use Rattle.std.specs.declared.option as code
+use Rattle.std.proofs.Math.Option.{some}
+use Rattle.std.proofs.Math.ListN.{get_elem?, drop_of_length-le}
+use Rattle.std.proofs.lemmas.List.{drop-map, take-map, take_all, length-map}
+use borrow.Author.Tests.{eq-eqb, ne_eqb, ltb-true, ltb-false}
 use Rattle.chart.specs.declared.Class.{Class}
 use Rattle.rules.specs.Classes.{Item, at_or_beyond, moved, extend_over, extend, extend_all}
-use Rattle.laws.proofs.Arrays.{left-more, left-none}
-use Rattle.levels.proofs.Read.{clipped}
-use Rattle.classes.proofs.Items.{at-past, left-from}
+use Rattle.laws.proofs.Lists.{map_at, lt_at}
+use Rattle.classes.specs.declared.Item as struct
+use Rattle.classes.specs.Items.{item_of, items_in}
+use Rattle.classes.proofs.Records.{left, at_or, at_past}
 
--- ---- parts of a list
+-- an end that lies behind the list takes what there is
+clipped : {A : Type 0} (xs : List A) (stop n : ℕ) → n + 1 ≤ min stop (length xs)
+    → take (min stop (length xs) - (n + 1)) (drop (n + 1) xs) ≡ take (stop - suc n) (drop (suc n) xs)
+clipped xs stop n h = rw (add-one n) (by (ltb (length xs) stop) refl)
+  where
+    by : (b : Bool) → ltb (length xs) stop ≡ b → take (min stop (length xs) - suc n) (drop (suc n) xs) ≡ take (stop - suc n) (drop (suc n) xs)
+    by false w = let same : min stop (length xs) ≡ stop = omega (arith, ltb-false _ _ w) in rw same
+    by true w =
+        let long = length-drop (suc n) xs in
+        let more = ltb-true _ _ w in
+        rw (
+          take_all (min stop (length xs) - suc n) (drop (suc n) xs) (omega (arith, long, more)),
+          take_all (stop - suc n) (drop (suc n) xs) (omega (arith, long, more)),
+        )
 
-drop-take : {A : Type 0} (a b : ℕ) (l : List A) → drop a (take b l) ≡ take (b - a) (drop a l)
-drop-take zero b l = let z : b - zero ≡ b = omega arith in rw z
-drop-take (suc a) zero l = let z : zero - suc a ≡ 0 = omega arith in rw z
-drop-take (suc a) (suc b) [] = sym (take-nil (suc b - suc a))
-drop-take (suc a) (suc b) (x ∷ l) = let z : suc b - suc a ≡ b - a = omega arith in rw z (drop-take a b l)
-
--- ---- one class
-
-module _ (items : List Item) (n stop : ℕ) (k : Class) (size : length items ≡ n) where
-  pub extend-none : n ≤ k.last → k ≡ extend items stop k
-  unfolding extend
-  extend-none h = rw (extend, at-past items k.last (omega arith))
-
-  -- the items that it may reach, up to `end`
-  pub extend-begins :
-      (end : ℕ) (x : Item) → get_elem? items k.last ≡ some x → end ≡ min stop n
-      → extend_over k x.end (k.last + 1) (drop (k.last + 1) (take end items)) ≡ extend items stop k
-  unfolding extend
-  extend-begins end x there e =
-      rw (
-        extend,
-        there,
-        ← drop-take (suc k.last) stop items,
-        ← clipped stop n items size,
-        ← e,
-        add-one k.last,
-      )
-
--- k is the class as it is extended so far, and item j the next
-module _ (items : List Item) (j : ℕ) (k goal : Class) (p : Float) (left : extend_over k p j (drop j items) ≡ goal) where
-  pub over_none : length items ≤ j → k ≡ goal
-  unfolding extend_over
-  over_none h = rw (drop_of_length-le items {i = j} h) at left
-
-  -- y is item j, and r tells whether the class reaches it
-  module _
-      (y : Item) (there : get_elem? items j ≡ some y) (r : Bool)
-      (reaches : r ≡ (eqb y.direction k.direction && at_or_beyond k.direction y.end p))
+module _ (xs : List struct.Item) (stop : ℕ) (k : Class) where
+  -- no item lies behind its end and before `stop`
+  pub extend-none : min stop (length xs) ≤ k.last → k ≡ extend (items_in xs) stop k
+  unfolding extend extend_over
+  extend-none h = by (ltb k.last (length xs)) refl
     where
-      abbrev ys : List Item
-      ys = drop (j + 1) items
+      by : (b : Bool) → ltb k.last (length xs) ≡ b → k ≡ extend (items_in xs) stop k
+      by false w = rw (extend, at_past (items_in xs) k.last (omega (arith, length-map xs item_of, ltb-false _ _ w)))
+      by true w =
+          let (x, there) = lt_at xs k.last (ltb-true _ _ w) in
+          let over : stop - suc k.last ≡ 0 = omega (arith, ltb-true _ _ w) in
+          rw (extend, map_at item_of xs k.last x there, over)
 
-      here : extend_over k p j (y ∷ ys) ≡ goal
-      here = rw (left-from items j y there) at left
+  -- those that do
+  pub extend-begins :
+      (later : List struct.Item) (d : struct.Item) → k.last + 1 ≤ min stop (length xs)
+      → later ≡ take (min stop (length xs) - (k.last + 1)) (drop (k.last + 1) xs)
+      → extend_over k (get_or xs k.last d).end (k.last + 1 + 0) (items_in (drop 0 later)) ≡ extend (items_in xs) stop k
+  unfolding extend
+  extend-begins later d h e =
+      let there : get_elem? (items_in xs) k.last ≡ some (item_of (get_or xs k.last d)) =
+      map_at item_of xs k.last (get_or xs k.last d) (at_or xs k.last d (omega arith)) in
+      let start : k.last + 1 + 0 ≡ suc k.last = omega arith in
+      let same : take (min stop (length xs) - (k.last + 1)) (drop (k.last + 1) xs) ≡ take (stop - suc k.last) (drop (suc k.last) xs) =
+      clipped xs stop k.last h in
+      rw (extend, there, e, same, start, drop-map item_of (suc k.last) xs, take-map item_of (stop - suc k.last) (drop (suc k.last) xs))
 
-      pub over-pass : r ≡ false → extend_over k p (j + 1) ys ≡ goal
+-- k is the class as it is extended so far, and y, item j, the first of those that are left
+module _ (k : Class) (price : Float) (j n m : ℕ) (ys : List struct.Item) (goal : Class) (rest : extend_over k price j (items_in (drop n ys)) ≡ goal) where
+  pub over-none : length ys ≤ n → k ≡ goal
+  unfolding extend_over
+  over-none h = rw (drop_of_length-le ys {i = n} h) at rest
+
+  module _ (d : struct.Item) (h : n < length ys) (e : m ≡ suc j) where
+    abbrev y : struct.Item
+    y = get_or ys n d
+
+    abbrev zs : List struct.Item
+    zs = drop (n + 1) ys
+
+    here : extend_over k price j (item_of y ∷ items_in zs) ≡ goal
+    here = rw (left ys n d h) at rest
+
+    pub over-other : (y.direction ≡ k.direction → ⊥) → extend_over k price m (items_in zs) ≡ goal
+    unfolding extend_over
+    over-other o = rw e (rw (extend_over, ne_eqb _ _ o) at here)
+
+    module _ (o : y.direction ≡ k.direction) where
+      pub over-short : at_or_beyond k.direction y.end price ≡ false → extend_over k price m (items_in zs) ≡ goal
       unfolding extend_over
-      over-pass e = rw (add-one j) (rw (extend_over, sym reaches ∙ e, add-one j) at here)
+      over-short r = rw e (rw (extend_over, eq-eqb _ _ o, r) at here)
 
-      pub over-moves : (m : Class) → r ≡ true → m ≡ moved k j → extend_over m y.end (j + 1) ys ≡ goal
+      pub over-moves : at_or_beyond k.direction y.end price ≡ true → extend_over (moved k j) y.end m (items_in zs) ≡ goal
       unfolding extend_over
-      over-moves m e f = rw (f, add-one j) (rw (extend_over, sym reaches ∙ e, add-one j) at here)
+      over-moves r = rw e (rw (extend_over, eq-eqb _ _ o, r) at here)
 
 -- ---- all classes
-
--- what an array's place outside holds
-abbrev pub no_class : Class
-no_class = record { first = 0; last = 0; direction = 0; by_case3 = false; extended = false; base_adjacent = false }
 
 -- where the extension of a class stops that these follow
 abbrev pub stop_at : ℕ → List Class → ℕ
@@ -87,49 +98,21 @@ unfolding extend_all
 all_cons items k [] = refl
 all_cons items k (n ∷ ks) = refl
 
--- the rows before place c are as they were, the count rows from there on are extended, and the row before c is extended up to `stop`
-pub record Behind (items : List Item) (count c stop : ℕ) (were rows : List Class) : Type 0 where
-  pub before : take c rows ≡ take c were
-  pub behind : drop c (take count rows) ≡ extend_all items (drop c (take count were))
-  pub stops : stop ≡ stop_at (length items) (drop c (take count were))
+module _ (found : List Class) (i n : ℕ) (stop : ℕ) where
+  pub stop-of :
+      {P : Type 0} {Q : Bor Class → Type 0} (next : code.Option.Option (Bor Class)) → MatchOption next P Q → IsItemAt found (i + 1) next
+      → (P → stop ≡ n) → ((x : Bor Class) → Q x → stop ≡ x.now.first) → stop ≡ stop_at n (drop (i + 1) found)
+  stop-of None m r f g = rw (drop_of_length-le found {i = i + 1} r.3) (f m)
+  stop-of (Some x) m r f g = rw (left found (i + 1) x.now r.3.0, ← r.3.1 x.now) (g x m)
 
-pub behind-first :
-    (items : List Item) (count stop : ℕ) (rows : List Class) → count ≤ length rows → stop ≡ length items → Behind items count count stop rows rows
+pub all_more :
+    (xs : List struct.Item) (found done goal : List Class) (i stop : ℕ) (d : Class) → i < length found → stop ≡ stop_at (length xs) (drop (i + 1) found)
+    → done ++ extend_all (items_in xs) (drop i found) ≡ goal
+    → (done ++ extend (items_in xs) stop (get_or found i d) ∷ []) ++ extend_all (items_in xs) (drop (i + 1) found) ≡ goal
+all_more xs found done goal i stop d h e rest =
+    append_assoc done _ _ ∙ (rw (left found i d h, all_cons, length-map xs item_of, ← e) at rest)
+
+pub all-done :
+    (xs : List struct.Item) (found done goal : List Class) (i : ℕ) → length found ≤ i → done ++ extend_all (items_in xs) (drop i found) ≡ goal → done ≡ goal
 unfolding extend_all
-behind-first items count stop rows h e =
-    let over = left-none count count rows (omega arith) h in record { before = refl; behind = rw over; stops = rw over e }
-
-pub behind_more :
-    (items : List Item) (count c d stop : ℕ) (were rows : List Class) (k : Class) → c ≡ d + 1 → c ≤ count → count ≤ length rows → count ≤ length were
-    → Behind items count c stop were rows → k ≡ extend items stop (get_or rows d no_class)
-    → Behind items count d (get_or rows d no_class).first were (set rows d k)
-behind_more items count c d stop were rows k e f g h b m =
-    let same : get_or rows d no_class ≡ get_or were d no_class =
-    sym (get_or-take c rows d no_class (omega arith)) ∙ ap (λ (l : List Class). get_or l d no_class) b.before ∙ get_or-take c were d no_class (omega arith) in
-    let long : count ≤ length (set rows d k) = simp length-set g in
-    let next = left-more count d were no_class (omega arith) h in
-    record {
-      before =
-          take-set-le d rows d k (omega arith)
-          ∙ sym (take-take d c rows (omega arith)) ∙ ap (take d) b.before ∙ take-take d c were (omega arith);
-      behind =
-          left-more count d (set rows d k) no_class (omega arith) long
-          ∙ (rw (
-            get_or-set_same rows d k no_class (omega arith),
-            take-set-lt count rows d k (omega arith),
-            drop-set-lt (d + 1) (take count rows) d k (omega arith),
-            next,
-            all_cons items (get_or were d no_class) (drop (d + 1) (take count were)),
-            ← e,
-            b.behind,
-            m,
-            same,
-            b.stops,
-          ));
-      stops = rw (next, same);
-    }
-
-pub behind-all :
-    (items : List Item) (count c stop : ℕ) (were rows : List Class) → c ≡ 0 → Behind items count c stop were rows
-    → take count rows ≡ extend_all items (take count were)
-behind-all items count c stop were rows e b = rw e at b.behind
+all-done xs found done goal i h rest = sym (append-nil done) ∙ (rw (drop_of_length-le found {i = i} h) at rest)

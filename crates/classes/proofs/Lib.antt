@@ -1,7 +1,6 @@
-pub mod Items
-pub mod Second
+pub mod Records
 pub mod After
-pub mod Walked
+pub mod Second
 pub mod Extended
+pub mod Walked
 pub mod Given
-pub mod Gather

@@ -1,66 +1,57 @@
--- Comparisons in a direction by one of two prices, and case 2: the definition at the next item, one law for each way through the code's loop.
--- Assumes nothing.
-use Prim.Native.Nat.{ℕ, ◌+◌, ◌≤◌}
-use native.Mathlib.Numerals.{add-one}
-use mathlib.Core.Path.{◌≡◌, refl}
-use mathlib.Core.Bool.{Bool, true, false, cond}
-use mathlib.Core.List.{List, ◌∷◌}
-use mathlib.Core.Option.{Option, none, some}
-use lib.ListN.{length, get_elem?, drop, drop_of_length-le}
-use lib.Ieee.{Float, lt, le}
+-- Case 2: the definition at the next item, one law for each way through the code's loop. Assumes nothing.
+use Rattle.std.proofs.Common.{◌≡◌, ℕ, suc, ◌+◌, ◌-◌, ◌<◌, ◌≤◌, true, false, List, ◌∷◌, length, get_or, take, drop, arith, add-one, length-drop}
+use Rattle.std.specs.Prelude.{Float}
+use Rattle.std.proofs.Math.Option.{Option, none, some}
+use Rattle.std.proofs.Math.ListN.{get_elem?, drop_of_length-le}
+use Rattle.std.proofs.lemmas.List.{drop-map, take_all}
 use borrow.Author.Tests.{eq-eqb, ne_eqb}
-use Rattle.rules.specs.Records.{is_up}
-use Rattle.rules.specs.Classes.{Item, at_or_beyond, at_or_short, beyond, case2_from, case2}
-use Rattle.classes.proofs.Items.{left-from}
-
--- a comparison of p with q, which are b and a for up, a and b for down
-module _ (d : ℕ) (a b p q : Float) (e : p ≡ cond (is_up d) b a) (g : q ≡ cond (is_up d) a b) where
-  compared : (f : Float → Float → Bool) → f p q ≡ cond (is_up d) (f b a) (f a b)
-  compared f = rw (e, g) (by (is_up d))
-    where
-      by : (u : Bool) → f (cond u b a) (cond u a b) ≡ cond u (f b a) (f a b)
-      by true = refl
-      by false = refl
-
-  pub compared-beyond : lt p q ≡ beyond d a b
-  unfolding beyond
-  compared-beyond = compared lt
-
-  pub compared-at-or-beyond : le p q ≡ at_or_beyond d a b
-  unfolding at_or_beyond
-  compared-at-or-beyond = compared le
+use Rattle.rules.specs.Classes.{Item, at_or_short, beyond, case2_from, case2}
+use Rattle.laws.proofs.Lists.{map_at}
+use Rattle.classes.specs.declared.Item as struct
+use Rattle.classes.specs.Items.{item_of, items_in}
+use Rattle.classes.proofs.Records.{at_or, left}
 
 pub second_begins :
-    (items : List Item) (i : ℕ) (x : Item) → get_elem? items i ≡ some x → case2_from x x.end (i + 1) (drop (i + 1) items) ≡ case2 items i
+    (xs : List struct.Item) (i : ℕ) (d : struct.Item) → i < length xs
+    → case2_from (item_of (get_or xs i d)) (get_or xs i d).end (i + 1 + 0) (items_in (drop 0 (take (length xs - (i + 1)) (drop (i + 1) xs))))
+    ≡ case2 (items_in xs) i
 unfolding case2
-second_begins items i x e = rw (e, add-one i)
+second_begins xs i d h =
+    let there : get_elem? (items_in xs) i ≡ some (item_of (get_or xs i d)) = map_at item_of xs i (get_or xs i d) (at_or xs i d h) in
+    let all : take (length xs - (i + 1)) (drop (i + 1) xs) ≡ drop (i + 1) xs =
+    take_all (length xs - (i + 1)) (drop (i + 1) xs) (omega (arith, length-drop (i + 1) xs)) in
+    let start : i + 1 + 0 ≡ suc i = omega arith in
+    rw (there, all, start, add-one i, drop-map item_of (suc i) xs)
 
--- x is the item whose case 2 is sought, and item j the next
-module _ (items : List Item) (j : ℕ) (x : Item) (top : Float) (goal : Option ℕ) (left : case2_from x top j (drop j items) ≡ goal) where
-  pub second-over : length items ≤ j → none ≡ goal
+-- x is the item whose case 2 is sought, and y, item j, the first of those that are left
+module _ (x : Item) (top : Float) (j k m : ℕ) (ys : List struct.Item) (goal : Option ℕ) (rest : case2_from x top j (items_in (drop k ys)) ≡ goal) where
+  pub second-over : length ys ≤ k → none ≡ goal
   unfolding case2_from
-  second-over h = rw (drop_of_length-le items {i = j} h) at left
+  second-over h = rw (drop_of_length-le ys {i = k} h) at rest
 
-  module _ (y : Item) (there : get_elem? items j ≡ some y) where
-    abbrev ys : List Item
-    ys = drop (j + 1) items
+  module _ (d : struct.Item) (h : k < length ys) (e : m ≡ suc j) where
+    abbrev y : struct.Item
+    y = get_or ys k d
 
-    here : case2_from x top j (y ∷ ys) ≡ goal
-    here = rw (left-from items j y there) at left
+    abbrev zs : List struct.Item
+    zs = drop (k + 1) ys
 
-    pub second-other : (y.direction ≡ x.direction → ⊥) → case2_from x top (j + 1) ys ≡ goal
+    here : case2_from x top j (item_of y ∷ items_in zs) ≡ goal
+    here = rw (left ys k d h) at rest
+
+    pub second-other : (y.direction ≡ x.direction → ⊥) → case2_from x top m (items_in zs) ≡ goal
     unfolding case2_from
-    second-other d = rw (add-one j) (rw (case2_from, ne_eqb _ _ d, add-one j) at here)
+    second-other o = rw e (rw (case2_from, ne_eqb _ _ o) at here)
 
     pub second-fails : y.direction ≡ x.direction → at_or_short x.direction y.start x.start ≡ true → none ≡ goal
     unfolding case2_from
-    second-fails d s = rw (case2_from, eq-eqb _ _ d, s) at here
+    second-fails o s = rw (case2_from, eq-eqb _ _ o, s) at here
 
-    module _ (d : y.direction ≡ x.direction) (s : at_or_short x.direction y.start x.start ≡ false) where
+    module _ (o : y.direction ≡ x.direction) (s : at_or_short x.direction y.start x.start ≡ false) where
       pub second-ends : beyond x.direction y.end top ≡ true → some j ≡ goal
       unfolding case2_from
-      second-ends b = rw (case2_from, eq-eqb _ _ d, s, b) at here
+      second-ends b = rw (case2_from, eq-eqb _ _ o, s, b) at here
 
-      pub second-next : beyond x.direction y.end top ≡ false → case2_from x y.end (j + 1) ys ≡ goal
+      pub second-next : beyond x.direction y.end top ≡ false → case2_from x y.end m (items_in zs) ≡ goal
       unfolding case2_from
-      second-next b = rw (add-one j) (rw (case2_from, eq-eqb _ _ d, s, b, add-one j) at here)
+      second-next b = rw e (rw (case2_from, eq-eqb _ _ o, s, b) at here)

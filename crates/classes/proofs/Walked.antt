@@ -1,83 +1,74 @@
 -- The walk: what is found so far and what is left, one law for each way through the code's loop. Assumes nothing.
-use Prim.Native.Nat.{ℕ, ◌+◌, ◌<◌, ◌≤◌}
-use native.Mathlib.Numerals.{add-one}
-use mathlib.Core.Path.{◌≡◌, refl, sym, ◌∙◌}
-use mathlib.Core.Bool.{Bool, true, false, ◌&&◌}
-use mathlib.Core.List.{List, [], ◌∷◌, ◌++◌, append_assoc, append-nil}
-use mathlib.Core.Option.{Option, none, some}
-use lib.ListN.{length, get_elem?, drop, drop_of_length-le}
-use lib.Dec.{leb}
+use Rattle.std.proofs.Common.{◌≡◌, ℕ, suc, ◌+◌, ◌<◌, ◌≤◌, Bool, true, false, ◌&&◌, leb, List, [], ◌∷◌, ◌++◌, length, get_or, drop, refl, sym, ◌∙◌}
+use Rattle.std.proofs.Common.{add-one, append_assoc, append-nil, Some}
+use Rattle.std.specs.declared.option as code
+use Rattle.std.proofs.Math.Option.{Option, none, some}
+use Rattle.std.proofs.Math.ListN.{drop_of_length-le}
+use Rattle.chart.specs.Table.{option_of}
 use Rattle.chart.specs.declared.Class.{Class}
-use Rattle.rules.specs.Classes.{Item, wanted, tried, walk}
+use Rattle.rules.specs.Classes.{Item, case2, case3, wanted, class_at, tried, walk}
+use Rattle.laws.proofs.Lists.{map_at}
+use Rattle.laws.proofs.Tests.{none-some}
 use Rattle.classes.specs.declared.Item as struct
-use Rattle.classes.specs.declared.End.{End}
-use Rattle.classes.specs.declared.Last.{Last}
-use Rattle.classes.specs.declared.Last.TheVariants.{Begin, After}
-use Rattle.classes.specs.declared.NewClass.{NewClass}
-use Rattle.classes.specs.declared.NewClass.TheVariants.{Found, Nothing}
-use Rattle.classes.specs.Items.{item_of, Case2, LastKept, Wanted, Begins, Tries}
-use Rattle.classes.proofs.Items.{left-from}
+use Rattle.classes.specs.declared.Held.{Held}
+use Rattle.classes.specs.Items.{item_of, items_in, class_in, next_in, Kept}
+use Rattle.classes.proofs.Records.{left, at_or}
 
--- ---- the classes that are done, and the walk from item i on after the last one: together all
-pub record Carries (on : Bool) (items : List Item) (l : Last) (next i : ℕ) (done goal : List Class) : Type 0 where
-  pub k : Option Class
-  pub stands : LastKept items k l
-  pub rest : done ++ walk on items k next i (drop i items) ≡ goal
+-- a class begins at the item that was tried
+begins_at : (on : Bool) (items : List Item) (k : Option Class) (i : ℕ) (x : Item) (m : Class) → tried on items k i x ≡ some m → m.first ≡ i
+unfolding tried class_at
+begins_at on items k i x m e = by (on && case3 items k x) (case2 items i) e
+  where
+    by :
+        (b : Bool) (o : Option ℕ)
+        → elim b [ true ↦ some (class_at items k i x i true) | false ↦ elim o [ none ↦ none | some e ↦ some (class_at items k i x e false) ] ] ≡ some m
+        → m.first ≡ i
+    by true o e = cc
+    by false none e = absurd (none-some e)
+    by false (some n) e = cc
 
-pub carries_first : (on : Bool) (items : List Item) → Carries on items Begin 0 0 [] (walk on items none 0 0 items)
-carries_first on items = record { k = none; stands = tt; rest = refl }
+module _
+    (on : Bool) (xs : List struct.Item) (i : ℕ) (last : code.Option.Option Held) (done goal : List Class)
+    (rest : done ++ walk on (items_in xs) (class_in last) (next_in last) i (items_in (drop i xs)) ≡ goal)
+  where
+    pub walk-all : length xs ≤ i → done ≡ goal
+    unfolding walk
+    walk-all h = sym (append-nil done) ∙ (rw (drop_of_length-le xs {i = i} h) at rest)
 
-module _ (on : Bool) (items : List Item) (i : ℕ) (l : Last) (next : ℕ) (done goal : List Class) (c : Carries on items l next i done goal) where
-  pub carries-all : length items ≤ i → done ≡ goal
-  unfolding walk
-  carries-all h = sym (append-nil done) ∙ (rw (drop_of_length-le items {i = i} h) at c.rest)
+    module _ (d : struct.Item) (h : i < length xs) where
+      abbrev x : struct.Item
+      x = get_or xs i d
 
-  -- x is item i, and w tells whether it is wanted
-  module _
-      (x : struct.Item) (there : get_elem? items i ≡ some (item_of x)) (w : Bool) (wants : Wanted l x w)
-    where
-      abbrev left : List Item
-      left = drop (i + 1) items
+      abbrev later : List struct.Item
+      later = drop (i + 1) xs
 
-      tested : (leb next i && wanted c.k (item_of x)) ≡ (leb next i && w)
-      tested = rw (wants items c.k c.stands)
+      here : done ++ walk on (items_in xs) (class_in last) (next_in last) i (item_of x ∷ items_in later) ≡ goal
+      here = rw (left xs i d h) at rest
 
-      here : done ++ walk on items c.k next i (item_of x ∷ left) ≡ goal
-      here = rw (left-from items i (item_of x) there) at c.rest
-
-      pub carries-pass : (leb next i && w) ≡ false → Carries on items l next (i + 1) done goal
+      pub walk-pass :
+          (leb (next_in last) i && wanted (class_in last) (item_of x)) ≡ false
+          → done ++ walk on (items_in xs) (class_in last) (next_in last) (i + 1) (items_in later) ≡ goal
       unfolding walk
-      carries-pass e = record { k = c.k; stands = c.stands; rest = rw (add-one i) (rw (walk, tested ∙ e, add-one i) at here) }
+      walk-pass w = rw (add-one i) (rw (walk, w, add-one i) at here)
 
-      module _ (n : ℕ) (h : i < n) (end : End) (second : Case2 items n i end) (r : NewClass) (tries : Tries on l i x end r) (e : (leb next i && w) ≡ true) where
-        pub carries-none : r ≡ Nothing → Carries on items l next (i + 1) done goal
+      module _ (w : (leb (next_in last) i && wanted (class_in last) (item_of x)) ≡ true) where
+        pub walk-none :
+            none ≡ tried on (items_in xs) (class_in last) i (item_of x)
+            → done ++ walk on (items_in xs) (class_in last) (next_in last) (i + 1) (items_in later) ≡ goal
         unfolding walk
-        carries-none f =
-            let t : tried on items c.k i (item_of x) ≡ none = sym (rw f at (tries.same items c.k c.stands second.same)) in
-            record { k = c.k; stands = c.stands; rest = rw (add-one i) (rw (walk, tested ∙ e, t, add-one i) at here) }
+        walk-none t = rw (add-one i) (rw (walk, w, sym t, add-one i) at here)
 
-        -- a class that was found begins here, in the direction of the item, and ends among the items
-        pub carries-begins : (m : Class) → r ≡ Found m → Begins n i x (Found m)
-        carries-begins m f = rw f at (tries.begins n h second.among)
+        module _ (m : Class) (second : code.Option.Option ℕ) (t : some m ≡ tried on (items_in xs) (class_in last) i (item_of x)) where
+          pub walk-some : (done ++ m ∷ []) ++ walk on (items_in xs) (some m) (suc m.last) (i + 1) (items_in later) ≡ goal
+          unfolding walk
+          walk-some = append_assoc done (m ∷ []) _ ∙ (rw (add-one i) (rw (walk, w, sym t, add-one i) at here))
 
-        pub carries-some :
-            (m : Class) → r ≡ Found m
-            → Carries on items (After (record { direction = x.direction; start = x.start; end = end })) (m.last + 1) (i + 1) (done ++ m ∷ []) goal
-        unfolding walk
-        carries-some m f =
-            let t : tried on items c.k i (item_of x) ≡ some m = sym (rw f at (tries.same items c.k c.stands second.same)) in
-            let g = carries-begins m f in
-            record {
-              k = some m;
-              stands =
-                  record {
-                    opening = item_of x;
-                    there = rw g.0 there;
-                    start = refl;
-                    way = g.1;
-                    second = rw g.0 (sym second.same);
-                  };
-              rest =
-                  append_assoc done (m ∷ []) (walk on items (some m) (m.last + 1) (i + 1) left)
-                  ∙ (rw (add-one i, add-one m.last) (rw (walk, tested ∙ e, t, add-one i) at here));
-            }
+          pub kept-some : option_of second ≡ case2 (items_in xs) i → Kept (items_in xs) (Some (record { class = m; start = x.start; second = second }))
+          kept-some e =
+              let first : m.first ≡ i = begins_at on (items_in xs) (class_in last) i (item_of x) m (sym t) in
+              record {
+                opening = item_of x;
+                there = rw first (map_at item_of xs i x (at_or xs i d h));
+                start = refl;
+                second = rw first e;
+              }

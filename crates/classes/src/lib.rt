@@ -2,49 +2,82 @@
 
 #![tactic(auto)]
 
-ghost use Rattle.std.specs.Prelude.{◌≡◌, cond, ◌&&◌, ◌<◌, ◌≤◌, min, eqb, take};
-ghost use Rattle.std.proofs.Math.Option.{none};
-ghost use Rattle.rules.specs.Answer.{rows_answer, given, refused};
-ghost use Rattle.rules.specs.Records.{is_up, levels_of};
-ghost use Rattle.rules.specs.Classes.{beyond, at_or_beyond, at_or_short, walk, moved, extend, extend_all, classes};
+ghost use Rattle.std.specs.Prelude.{◌≡◌, cond, ◌&&◌, ◌||◌, ◌<◌, ◌≤◌, not, length, eqb, leb, List};
+ghost use Rattle.std.proofs.Math.Option.{Option, none};
+ghost use Rattle.chart.specs.Table.{option_of};
+ghost use Rattle.rows.specs.Rows.{rows_in};
+ghost use Rattle.rules.specs.Answer.{answer_of, rows_answer, answered};
+ghost use Rattle.rules.specs.Lists.{any, is_none, collect};
+ghost use Rattle.rules.specs.Refusals.{refuse, above_one, lacks};
 ghost use Rattle.rules.specs.Calls.{segment_classes_call, big_classes_call};
-ghost use Rattle.classes.specs.Items.{item_of, item_at, items_of, Case2, Wanted, Case3, EndsBefore, Tries, Holds};
-ghost use Rattle.classes.specs.Items.{CountsFit, level_of, row_item, item_from, read_of, Gathers, Ends};
+ghost use Rattle.rules.specs.Records.{is_up, levels_of};
+ghost use Rattle.rules.specs.Classes.{segment_item, big_item, beyond, at_or_beyond, at_or_short, case2, case3, ends_before, wanted, tried};
+ghost use Rattle.rules.specs.Classes.{walk, extend, extend_all, classes};
+ghost use Rattle.rules.specs.Classes as rule;
+ghost use Rattle.classes.specs.Items.{item_of, items_in, item_read, class_in, next_in, Kept};
 
-use chart::{Chart, Class, Stroke, Triple};
-
-// The answer of a class call: a number, and where it is 0 the first `count` rows.
-#[derive(Clone, Copy)]
-pub struct ClassRows {
-    pub number: u8,
-    pub count: u16,
-    pub rows: [Class; 256],
-}
+use chart::{Chart, Class, Refusal, Triple};
+use rows::Rows;
 
 // A segment or a big, by its direction and the prices of its first and last stroke.
 #[derive(Clone, Copy)]
-pub struct Item {
+struct Item {
     pub direction: u8,
     pub start: f64,
     pub end: f64,
 }
 
-// Item i of three columns. Columns can be lent; an array of items would be copied for each one that is tried.
-fn item_at<'a>(
-    directions: &'a [u8; 256],
-    starts: &'a [f64; 256],
-    ends: &'a [f64; 256],
-    i: u16,
-) -> Item
-    requires { i < 256 }
-    ensures { item_of result ≡ item_at directions.now starts.now ends.now i }
+// ---- items of a level
+
+const NO_ITEM: Item = Item {
+    direction: 0,
+    start: 0.0,
+    end: 0.0,
+};
+
+// The item of a segment, where its strokes are there.
+#[tactic(auto, unfolding(rules::specs::Classes::segment_item, rules::specs::Classes::item, rules::specs::Records::levels_of))]
+fn segment_item(chart: &Chart, t: Triple) -> Option<Item>
+    ensures { item_read result ≡ segment_item (levels_of chart.now) t }
 {
-    let k = i as usize;
-    Item {
-        direction: directions[k],
-        start: starts[k],
-        end: ends[k],
+    let s = levels::record_at(chart.strokes(), t.first)?;
+    let e = levels::record_at(chart.strokes(), t.last)?;
+    Some(Item {
+        direction: t.direction,
+        start: s.start_price,
+        end: e.end_price,
+    })
+}
+
+// The item of a big: that from the first stroke of its first segment to the last stroke of its last.
+fn big_item(chart: &Chart, t: Triple) -> Option<Item>
+    ensures { item_read result ≡ big_item (levels_of chart.now) t }
+{
+    let a = levels::record_at(chart.segments(), t.first)?;
+    let z = levels::record_at(chart.segments(), t.last)?;
+    let over_strokes = Triple {
+        direction: t.direction,
+        first: a.first,
+        last: z.last,
+    };
+    segment_item(chart, over_strokes)
+}
+
+// The items of records, unless one of them has none.
+fn items_of<F: Fn(Triple) -> Option<Item>>(
+    records: &[Triple],
+    item: F,
+) -> Result<Rows<Item, 256>, Refusal>
+    requires few { length records.now ≤ 256 }
+    requires callable { F.IsAlwaysCallable item }
+    ensures { (f : Triple → Option rule.Item) → ((t : Triple) (x : _) → F.post item t x → item_read x ≡ f t)
+        → answer_of (λ r. items_in (rows_in r)) result ≡ answered (refuse (any (λ t. is_none (f t)) records.now) 10 0) (collect f records.now) }
+{
+    let mut items = Rows::new(NO_ITEM);
+    for t in records {
+        items.push(item(*t).ok_or(Refusal::Lacking)?);
     }
+    Ok(items)
 }
 
 // ---- comparisons in a direction: up as they stand, down mirrored
@@ -53,13 +86,11 @@ fn item_at<'a>(
 fn by_direction(d: u8, up: f64, down: f64) -> f64
     ensures { result ≡ cond (is_up d) up down }
 {
-    if d == 1 {
-        return up;
-    }
-    down
+    if d == 1 { up } else { down }
 }
 
 // a > b
+#[tactic(auto, unfolding(rules::specs::Classes::beyond))]
 pub fn beyond(d: u8, a: f64, b: f64) -> bool
     ensures { result ≡ beyond d a b }
 {
@@ -67,6 +98,7 @@ pub fn beyond(d: u8, a: f64, b: f64) -> bool
 }
 
 // a ≥ b
+#[tactic(auto, unfolding(rules::specs::Classes::at_or_beyond))]
 fn at_or_beyond(d: u8, a: f64, b: f64) -> bool
     ensures { result ≡ at_or_beyond d a b }
 {
@@ -74,6 +106,7 @@ fn at_or_beyond(d: u8, a: f64, b: f64) -> bool
 }
 
 // a ≤ b
+#[tactic(auto, unfolding(rules::specs::Classes::at_or_beyond, rules::specs::Classes::at_or_short))]
 fn at_or_short(d: u8, a: f64, b: f64) -> bool
     ensures { result ≡ at_or_short d a b }
 {
@@ -82,145 +115,83 @@ fn at_or_short(d: u8, a: f64, b: f64) -> bool
 
 // ---- cases 2 and 3
 
-// The index of the item that case 2 makes the end of a class, where it holds.
-#[derive(Clone, Copy)]
-enum End {
-    At(u16),
-    Nowhere,
-}
-
-// Case 2 of item i of n takes the later items of its direction in order, `top` being the end of the one before: one that starts at or short
-// of its start fails it, one that ends beyond `top` is the end.
-fn case2<'a>(
-    directions: &'a [u8; 256],
-    starts: &'a [f64; 256],
-    ends: &'a [f64; 256],
-    n: u16,
-    i: u16,
-) -> End
-    requires { (i < n) × (n ≤ 256) }
-    ensures { Case2 (items_of n directions.now starts.now ends.now) n i result }
+// Case 2 of item i takes the later items of its direction in order, `top` being the end of the one before: one that starts at or short of
+// its start fails it, one that ends beyond `top` is the end of the class.
+fn case2(items: &[Item], i: usize) -> Option<u16>
+    requires here { i < length items.now }
+    requires few { length items.now ≤ 256 }
+    ensures { option_of result ≡ case2 (items_in items.now) i }
 {
-    let x = item_at(directions, starts, ends, i);
+    let x = items[i];
     let mut top = x.end;
-    let mut j = i + 1;
-    while j < n {
-        let y = item_at(directions, starts, ends, j);
+    for (j, y) in items[i + 1..].iter().enumerate() {
         if y.direction != x.direction {
-            j += 1;
             continue;
         }
-        let fails = at_or_short(x.direction, y.start, x.start);
-        let ended = beyond(x.direction, y.end, top);
-        if fails {
-            return End::Nowhere;
+        if at_or_short(x.direction, y.start, x.start) {
+            return None;
         }
-        if ended {
-            return End::At(j);
+        if beyond(x.direction, y.end, top) {
+            return Some((i + 1 + j) as u16);
         }
         top = y.end;
-        j += 1;
     }
-    End::Nowhere
+    None
 }
 
-// What the walk keeps of a class: its direction, and the start price and the case 2 of its first item.
+// The last class of the walk, and of its first item the start price and the end by case 2.
 #[derive(Clone, Copy)]
 struct Held {
-    direction: u8,
+    class: Class,
     start: f64,
-    end: End,
-}
-
-// The last class of the walk, where there is one.
-#[derive(Clone, Copy)]
-enum Last {
-    Begin,
-    After(Held),
+    second: Option<u16>,
 }
 
 // Whether case 3 holds of item x, its byte on or off.
-fn case3(last: Last, x: Item) -> bool
-    ensures { Case3 last x result }
+fn case3(last: Option<Held>, x: Item) -> bool
+    ensures { (items : List rule.Item) → Kept items last → result ≡ case3 items (class_in last) (item_of x) }
 {
-    let Last::After(k) = last else {
-        return false;
-    };
-    if k.direction == x.direction {
-        return false;
-    }
-    beyond(x.direction, x.end, k.start)
+    last.is_some_and(|k| {
+        k.class.direction != x.direction && beyond(x.direction, x.end, k.start)
+    })
 }
 
 // Whether the first item of the last class has a case 2 that ends at i - 1.
-fn ends_before(last: Last, i: u16) -> bool
-    ensures { EndsBefore last i result }
+fn ends_before(last: Option<Held>, i: u16) -> bool
+    ensures { (items : List rule.Item) → Kept items last → result ≡ ends_before items (class_in last) i }
 {
-    let Last::After(k) = last else {
-        return false;
-    };
-    let end = k.end;
-    let End::At(e) = end else {
-        return false;
-    };
-    e as u32 + 1 == i as u32
+    last.and_then(|k| k.second)
+        .is_some_and(|e| e as u32 + 1 == i as u32)
 }
 
 // ---- the walk
 
-// Both directions are wanted while there is no class, and then the one opposite to the last class's.
-fn wanted(last: Last, x: Item) -> bool
-    ensures { Wanted last x result }
+// Whether the walk tries item i, which is x: it lies behind the last class, and has the other direction.
+fn wanted(last: Option<Held>, i: usize, x: Item) -> bool
+    ensures { result ≡ (leb (next_in last) i && wanted (class_in last) (item_of x)) }
 {
-    let Last::After(k) = last else {
-        return true;
-    };
-    k.direction != x.direction
+    last.is_none_or(|k| (k.class.last as usize) < i && k.class.direction != x.direction)
 }
 
-// The class of an item that was tried, where it begins one.
-#[derive(Clone, Copy)]
-enum NewClass {
-    Found(Class),
-    Nothing,
-}
-
-// Item i, which is x, after the last class: case 3, when on, ends the class at i; else case 2, which gave `end`. The class is adjacent
-// when case 3 holds, byte on or off, and the last class's first item has a case 2 that ends at i - 1.
-fn tried(on: bool, last: Last, i: u16, x: Item, end: End) -> NewClass
-    ensures { Tries on last i x end result }
+// The class that item i, which is x, begins after the last class: case 3, when on, ends it at i; else case 2, which gave `second`. It is
+// adjacent when case 3 holds, byte on or off, and the last class's first item has a case 2 that ends at i - 1.
+fn tried(on: bool, last: Option<Held>, i: u16, x: Item, second: Option<u16>) -> Option<Class>
+    ensures { (items : List rule.Item) → Kept items last → option_of second ≡ case2 items i
+        → option_of result ≡ tried on items (class_in last) i (item_of x) }
 {
     let third = case3(last, x);
     let before = ends_before(last, i);
     let adjacent = third & before;
-    if on & third {
-        return NewClass::Found(Class {
-            first: i,
-            last: i,
-            direction: x.direction,
-            by_case3: true,
-            extended: false,
-            base_adjacent: adjacent,
-        });
-    }
-    let End::At(e) = end else {
-        return NewClass::Nothing;
-    };
-    NewClass::Found(Class {
+    let by_case3 = on & third;
+    let end = if by_case3 { i } else { second? };
+    Some(Class {
         first: i,
-        last: e,
+        last: end,
         direction: x.direction,
-        by_case3: false,
+        by_case3,
         extended: false,
         base_adjacent: adjacent,
     })
-}
-
-// Classes, in the first `count` rows.
-#[derive(Clone, Copy)]
-struct Rows {
-    count: u16,
-    rows: [Class; 256],
 }
 
 const NO_CLASS: Class = Class {
@@ -232,327 +203,115 @@ const NO_CLASS: Class = Class {
     base_adjacent: false,
 };
 
-// The walk over n items: after a class it goes on behind its end, at `next`.
-fn walk<'a>(
-    directions: &'a [u8; 256],
-    starts: &'a [f64; 256],
-    ends: &'a [f64; 256],
-    n: u16,
-    on: bool,
-) -> Rows
-    requires { n ≤ 256 }
-    ensures { Holds result (walk on (items_of n directions.now starts.now ends.now) none 0 0
-        (items_of n directions.now starts.now ends.now)) }
+// The walk over the items, with case 3 on or off.
+fn walk(items: &[Item], on: bool) -> Rows<Class, 256>
+    requires few { length items.now ≤ 256 }
+    ensures { rows_in result ≡ walk on (items_in items.now) none 0 0 (items_in items.now) }
 {
-    let mut rows = [NO_CLASS; 256];
-    let mut count = 0u16;
-    let mut last = Last::Begin;
-    let mut next = 0u16;
-    let mut i = 0u16;
-    while i < n {
-        let x = item_at(directions, starts, ends, i);
-        let now = wanted(last, x);
-        if !((next <= i) & now) {
-            i += 1;
+    let mut classes = Rows::new(NO_CLASS);
+    let mut last: Option<Held> = None;
+    for (i, x) in items.iter().enumerate() {
+        if !wanted(last, i, *x) {
             continue;
         }
-        let end = case2(directions, starts, ends, n, i);
-        let found = tried(on, last, i, x, end);
-        let NewClass::Found(k) = found else {
-            i += 1;
+        let second = case2(items, i);
+        let Some(class) = tried(on, last, i as u16, *x, second) else {
             continue;
         };
-        rows[count as usize] = k;
-        count += 1;
-        last = Last::After(Held {
-            direction: x.direction,
+        classes.push(class);
+        last = Some(Held {
+            class,
             start: x.start,
-            end,
+            second,
         });
-        next = k.last + 1;
-        i += 1;
     }
-    Rows { count, rows }
+    classes
 }
 
 // ---- extension
 
-// Whether item y is of the class's direction and ends at or beyond p, the price of its present end.
-fn reaches(k: Class, y: Item, p: f64) -> bool
-    ensures { result ≡ (eqb y.direction k.direction && at_or_beyond k.direction y.end p) }
+// A class extended over the items behind its end and before item `stop`: each of its direction that ends at or beyond the present end
+// becomes the end. Its last item is always there, and `stop` among the items; both are tested here, so that no class has to be known.
+fn extend(items: &[Item], stop: usize, k: Class) -> Class
+    requires few { length items.now ≤ 256 }
+    ensures { result ≡ extend (items_in items.now) stop k }
 {
-    (y.direction == k.direction) & at_or_beyond(k.direction, y.end, p)
-}
-
-// The class with item j as its end.
-fn moved(k: Class, j: u16) -> Class
-    ensures { result ≡ moved k j }
-{
-    Class {
-        first: k.first,
-        last: j,
-        direction: k.direction,
-        by_case3: k.by_case3,
-        extended: true,
-        base_adjacent: k.base_adjacent,
-    }
-}
-
-// The smaller of two.
-fn at_most(n: u16, m: u16) -> u16
-    ensures { result ≡ min n m }
-{
-    if n < m { n } else { m }
-}
-
-// A class extended over the items behind its end and before item `stop`. Its last item is always there, and `stop` among the n items;
-// both are tested here, so that no row has to be known.
-fn extend<'a>(
-    directions: &'a [u8; 256],
-    starts: &'a [f64; 256],
-    ends: &'a [f64; 256],
-    n: u16,
-    stop: u16,
-    k: Class,
-) -> Class
-    requires { n ≤ 256 }
-    ensures { result ≡ extend (items_of n directions.now starts.now ends.now) stop k }
-{
-    let last = k.last;
-    if n <= last {
+    let last = k.last as usize;
+    let Some(later) = items.get(last + 1..stop.min(items.len())) else {
         return k;
-    }
-    let end = at_most(stop, n);
-    let x = item_at(directions, starts, ends, last);
-    let mut price = x.end;
-    let mut r = k;
-    let mut at = last + 1;
-    while at < end {
-        let y = item_at(directions, starts, ends, at);
-        if !reaches(r, y, price) {
-            at += 1;
-            continue;
+    };
+    let mut longer = k;
+    let mut price = items[last].end;
+    for (j, y) in later.iter().enumerate() {
+        if y.direction == longer.direction && at_or_beyond(longer.direction, y.end, price) {
+            longer = Class {
+                last: (last + 1 + j) as u16,
+                extended: true,
+                ..longer
+            };
+            price = y.end;
         }
-        r = moved(r, at);
-        price = y.end;
-        at += 1;
     }
-    r
+    longer
 }
 
-// Each class extended up to the next one's start, the last over all that follow: from the last class to the first, whose starts stay.
-fn extend_all<'a>(
-    directions: &'a [u8; 256],
-    starts: &'a [f64; 256],
-    ends: &'a [f64; 256],
-    n: u16,
-    found: Rows,
-) -> Rows
-    requires { (n ≤ 256) × (found.count ≤ 256) }
-    ensures { Holds result (extend_all (items_of n directions.now starts.now ends.now) (take found.count found.rows)) }
+// Each class extended up to the next one's start, the last over all that follow.
+fn extend_all(items: &[Item], found: &[Class]) -> Rows<Class, 256>
+    requires few { length items.now ≤ 256 }
+    requires fit { length found.now ≤ 256 }
+    ensures { rows_in result ≡ extend_all (items_in items.now) found.now }
 {
-    let count = found.count;
-    let mut rows = found.rows;
-    let mut stop = n;
-    let mut c = count;
-    while 0 < c {
-        c -= 1;
-        let k = rows[c as usize];
-        rows[c as usize] = extend(directions, starts, ends, n, stop, k);
-        stop = k.first;
+    let mut all = Rows::new(NO_CLASS);
+    for (c, k) in found.iter().enumerate() {
+        let stop = found.get(c + 1).map_or(items.len(), |n| n.first as usize);
+        all.push(extend(items, stop, *k));
     }
-    Rows { count, rows }
+    all
 }
 
 // ---- one rule, two levels
 
-// The classes of n items, of which there are two at least.
-fn classes_of<'a>(
-    directions: &'a [u8; 256],
-    starts: &'a [f64; 256],
-    ends: &'a [f64; 256],
-    n: u16,
-    on: bool,
-) -> ClassRows
-    requires { (1 < n) × (n ≤ 256) }
-    ensures { rows_answer result.number result.count result.rows
-        ≡ given (classes on (items_of n directions.now starts.now ends.now)) }
-{
-    let found = walk(directions, starts, ends, n, on);
-    let all = extend_all(directions, starts, ends, n, found);
-    let rows = all.rows;
-    ClassRows {
-        number: 0,
-        count: all.count,
-        rows,
-    }
-}
-
-// ---- items of a level
-
-// Items in the first places of three columns; lacking, where a record that one of them needs is not there.
-#[derive(Clone, Copy)]
-struct Gathered {
-    lacking: bool,
-    directions: [u8; 256],
-    starts: [f64; 256],
-    ends: [f64; 256],
-}
-
-// The record, or the count, of the level that is asked for.
-fn chosen(bigs: bool, big: Triple, segment: Triple) -> Triple
-    ensures { result ≡ cond bigs big segment }
-{
-    if bigs {
-        return big;
-    }
-    segment
-}
-
-fn chosen_count(bigs: bool, big: u16, segment: u16) -> u16
-    ensures { result ≡ cond bigs big segment }
-{
-    if bigs {
-        return big;
-    }
-    segment
-}
-
-// The record t as a triple over strokes: a big goes from the first stroke of its first segment, a, to the last stroke of its last, z.
-fn over_strokes(bigs: bool, t: Triple, a: Triple, z: Triple) -> Triple
-    ensures { result ≡ cond bigs (record { direction = t.direction; first = a.first; last = z.last }) t }
-{
-    if bigs {
-        return Triple {
-            direction: t.direction,
-            first: a.first,
-            last: z.last,
-        };
-    }
-    t
-}
-
-// The item of a record, where it is there.
-#[derive(Clone, Copy)]
-enum ItemRead {
-    There(Item),
-    Lacking,
-}
-
-// The item of t over a level of `below` records in a chart with this number of strokes: u is t as a triple over strokes, s the first stroke
-// of u and e the last, each of them where it is there.
-fn item_from(t: Triple, u: Triple, s: Stroke, e: Stroke, below: u16, strokes: u16) -> ItemRead
-    ensures { read_of result ≡ item_from below strokes t u s e }
-{
-    if below <= t.first {
-        return ItemRead::Lacking;
-    }
-    if below <= t.last {
-        return ItemRead::Lacking;
-    }
-    if strokes <= u.first {
-        return ItemRead::Lacking;
-    }
-    if strokes <= u.last {
-        return ItemRead::Lacking;
-    }
-    ItemRead::There(Item {
-        direction: t.direction,
-        start: s.start_price,
-        end: e.end_price,
-    })
-}
-
-// The items of the bigs or of the segments. An index is made safe before its place is read, and tested behind that, by item_from.
-fn items_of(chart: Chart, bigs: bool) -> Gathered
-    requires { CountsFit chart }
-    ensures { Gathers (row_item bigs (levels_of chart)) (level_of bigs (levels_of chart)) result.lacking
-        (items_of (cond bigs chart.big_count chart.segment_count) result.directions result.starts result.ends) }
-{
-    let strokes = chart.stroke_count;
-    let segments = chart.segment_count;
-    let n = chosen_count(bigs, chart.big_count, segments) as usize;
-    let below = chosen_count(bigs, segments, strokes);
-    let mut got = Gathered {
-        lacking: true,
-        directions: [0; 256],
-        starts: [0.0; 256],
-        ends: [0.0; 256],
-    };
-    let mut k = 0usize;
-    while k < n {
-        let big = chart.bigs[k];
-        let segment = chart.segments[k];
-        let t = chosen(bigs, big, segment);
-        let a = chart.segments[levels::within(t.first, 256)];
-        let z = chart.segments[levels::within(t.last, 256)];
-        let u = over_strokes(bigs, t, a, z);
-        let s = chart.strokes[levels::within(u.first, 512)];
-        let e = chart.strokes[levels::within(u.last, 512)];
-        let read = item_from(t, u, s, e, below, strokes);
-        let ItemRead::There(x) = read else {
-            return got;
-        };
-        got.directions[k] = x.direction;
-        got.starts[k] = x.start;
-        got.ends[k] = x.end;
-        k += 1;
-    }
-    got.lacking = false;
-    got
-}
-
-// ---- the calls
-
-// A refusal: its number alone.
-fn refused(number: u8) -> ClassRows
-    requires { 0 < number }
-    ensures { rows_answer result.number result.count result.rows ≡ refused number }
-{
-    ClassRows {
-        number,
-        count: 0,
-        rows: [NO_CLASS; 256],
-    }
-}
-
-// The end of both calls, behind 21: 2; 10, from two items on; the classes.
-fn answer(got: Gathered, n: u16, case3: u8) -> ClassRows
-    requires { n ≤ 256 }
-    ensures { Ends got n case3 result }
+// The classes of records, `item` giving the item of one: 2; 10 from two records on; under two there are no classes.
+fn classes_of<F: Fn(Triple) -> Option<Item>>(
+    records: &[Triple],
+    case3: u8,
+    item: F,
+) -> Result<Rows<Class, 256>, Refusal>
+    requires few { length records.now ≤ 256 }
+    requires callable { F.IsAlwaysCallable item }
+    ensures { (f : Triple → Option rule.Item) → ((t : Triple) (x : _) → F.post item t x → item_read x ≡ f t)
+        → rows_answer result ≡ answered (refuse (above_one case3) 2 (refuse (lacks f records.now) 10 0)) (classes (eqb case3 1) (collect f records.now)) }
 {
     if 1 < case3 {
-        return refused(2);
+        return Err(Refusal::Above);
     }
-    if n < 2 {
-        return ClassRows {
-            number: 0,
-            count: 0,
-            rows: [NO_CLASS; 256],
-        };
+    if records.len() < 2 {
+        return Ok(Rows::new(NO_CLASS));
     }
-    if got.lacking {
-        return refused(10);
-    }
-    classes_of(&got.directions, &got.starts, &got.ends, n, case3 == 1)
+    let rows = items_of(records, item)?;
+    let items = rows.listed();
+    let found = walk(items, case3 == 1);
+    Ok(extend_all(items, found.listed()))
 }
 
 // The classes of segments, with the case-3 byte: 21, 2, 10.
-pub fn classify_big_segments(chart: Chart, case3: u8) -> ClassRows
-    ensures { rows_answer result.number result.count result.rows ≡ segment_classes_call chart case3 }
+#[tactic(auto, unfolding(rules::specs::Calls::segment_classes_call, rules::specs::Calls::on_chart))]
+pub fn classify_big_segments(chart: &Chart, case3: u8) -> Result<Rows<Class, 256>, Refusal>
+    ensures { rows_answer result ≡ segment_classes_call chart.now case3 }
 {
     if levels::bad_chart(chart) {
-        return refused(21);
+        return Err(Refusal::Chart);
     }
-    answer(items_of(chart, false), chart.segment_count, case3)
+    classes_of(chart.segments(), case3, |t| segment_item(chart, t))
 }
 
 // The classes of bigs.
-pub fn classify_sup_segments(chart: Chart, case3: u8) -> ClassRows
-    ensures { rows_answer result.number result.count result.rows ≡ big_classes_call chart case3 }
+#[tactic(auto, unfolding(rules::specs::Calls::big_classes_call, rules::specs::Calls::on_chart))]
+pub fn classify_sup_segments(chart: &Chart, case3: u8) -> Result<Rows<Class, 256>, Refusal>
+    ensures { rows_answer result ≡ big_classes_call chart.now case3 }
 {
     if levels::bad_chart(chart) {
-        return refused(21);
+        return Err(Refusal::Chart);
     }
-    answer(items_of(chart, true), chart.big_count, case3)
+    classes_of(chart.bigs(), case3, |t| big_item(chart, t))
 }

@@ -2,50 +2,38 @@
 
 #![tactic(auto)]
 
-ghost use Rattle.std.specs.Prelude.{◌≡◌, ◌+◌, ◌*◌, ◌/◌, ◌%◌, ◌≤◌, length};
+ghost use Rattle.std.specs.Prelude.{◌≡◌, ◌+◌, ◌≤◌, length};
 ghost use Rattle.std.specs.Float.{binary64};
 ghost use Rattle.std.specs.Float.Ieee.{of_bits};
 ghost use Rattle.price.specs.Price.{Price};
-ghost use Rattle.price.specs.Bytes.{price_bytes};
+ghost use Rattle.price.specs.Bytes.{bytes_of, price_bytes};
 ghost use Rattle.rules.specs.File.{number, price, stroke_in, triple_in};
 
 use chart::{Stroke, Triple};
 
 // ---- numbers of two bytes
 
-fn two_of(a: u8, b: u8) -> u16
-    ensures { result ≡ a + 256 * b }
-{
-    a as u16 + 256 * (b as u16)
-}
-
 pub fn two_at(s: &[u8], at: usize) -> u16
     requires { at + 2 ≤ length s.now }
     ensures { result ≡ number at 2 s.now }
 {
-    two_of(s[at], s[at + 1])
+    u16::from_le_bytes(s[at..at + 2].try_into().unwrap())
 }
 
-pub fn low_byte(n: u16) -> u8
-    ensures { result ≡ n % 256 }
+pub fn two_bytes(n: u16) -> [u8; 2]
+    ensures { result ≡ bytes_of 2 n }
 {
-    (n % 256) as u8
-}
-
-pub fn high_byte(n: u16) -> u8
-    ensures { result ≡ n / 256 % 256 }
-{
-    (n / 256) as u8
+    n.to_le_bytes()
 }
 
 // ---- prices
 
-// The value with these bits. The library makes no NaN of its bits, so a quotient makes it.
+// The value with these bits, of which `from_bits` makes no NaN.
 fn value_of(n: u64) -> f64
     ensures { result ≡ of_bits binary64 n }
 {
     if 0x7FF0_0000_0000_0000 < n % 0x8000_0000_0000_0000 {
-        return 0.0 / 0.0;
+        return f64::NAN;
     }
     f64::from_bits(n)
 }
@@ -55,14 +43,14 @@ pub fn price_at(s: &[u8], at: usize) -> f64
     requires { at + 8 ≤ length s.now }
     ensures { result ≡ price at s.now }
 {
-    value_of(price::number_of(&s[at..]))
+    value_of(u64::from_le_bytes(s[at..at + 8].try_into().unwrap()))
 }
 
 pub fn price_bytes(x: f64) -> [u8; 8]
     requires { Price x }
     ensures { result ≡ price_bytes x }
 {
-    price::bytes_of(price::bits_of_price(x))
+    x.to_le_bytes()
 }
 
 // ---- records
@@ -87,7 +75,7 @@ pub fn stroke_in(s: &[u8], roll: u8) -> Stroke
     let begun = triple_in(s);
     Stroke {
         direction: begun.direction,
-        roll: roll,
+        roll,
         start_bar: begun.first,
         end_bar: begun.last,
         start_price: price_at(s, 5),

@@ -1,114 +1,114 @@
--- Rows of marks whose bars rise: one put in at its place, one law for each way through the code's loop. Assumes nothing.
-use Prim.Native.Nat.{ℕ, ◌+◌, ◌<◌, ◌≤◌}
-use native.Mathlib.Omega.{arith}
-use mathlib.Core.Path.{◌≡◌, refl, sym, ◌∙◌}
-use mathlib.Core.Bool.{Bool, true, false, cond}
-use mathlib.Core.List.{List, [], ◌∷◌, ◌++◌, append_assoc}
-use lib.ListN.{length, get_or, set, take, drop, length-set}
-use lib.Seq.{take-set-lt, drop-set-lt}
-use lib.Dec.{eqb, ltb}
-use lib.Ieee.{nan}
-use borrow.Author.Tests.{lt-ltb, le-ltb, eq-eqb, ne_eqb}
+-- A mark put in by its bar. Assumes nothing.
+use Rattle.std.proofs.Common.{◌≡◌, ℕ, suc, ◌+◌, ◌<◌, ◌≤◌, Bool, true, false, cond, not, leb, ltb, eqb, List, [], ◌∷◌, ◌++◌, length, get_or, take}
+use Rattle.std.proofs.Common.{drop, refl, sym, ap, arith, Some, None}
+use Rattle.std.proofs.Math.ListN.{drop_of_length-le}
+use Rattle.std.proofs.lemmas.List.{take_all, length-take-le}
+use lib.Seq.{take-take}
+use Rattle.std.specs.Float.{nan}
+use Rattle.std.specs.List.{position, position_or_len}
+use Rattle.std.specs.declared.option as code
+use borrow.Author.Tests.{leb-true, leb-false, ltb-true, ltb-false, lt-ltb, le-ltb, eq-eqb, ne_eqb}
 use Rattle.chart.specs.declared.FirstMark.{FirstMark}
 use Rattle.rules.specs.FirstMarks.{insert_first}
-use Rattle.rules.specs.Marks.{insert_bar}
-use Rattle.laws.specs.Lists.{Rising}
-use Rattle.laws.proofs.Lists.{cons, then}
-use Rattle.laws.proofs.Arrays.{left-more, left-none}
-use Rattle.laws.proofs.Earlier.{inserts_rising}
-use Rattle.mark_rows.proofs.Bars.{one-taken, taken-whole, put_next, put_last}
-use Rattle.first_marks.specs.Placed.{bars_of}
+
+pub insert-length : (xs : List FirstMark) (m : FirstMark) → length (insert_first xs m) ≤ suc (length xs)
+unfolding insert_first
+insert-length [] m = omega arith
+insert-length (x ∷ xs) m = by (ltb m.bar_index x.bar_index) (eqb m.bar_index x.bar_index) (insert_first xs m) (insert-length xs m)
+  where
+    by :
+        (t u : Bool) (l : List FirstMark) → length l ≤ suc (length xs)
+        → length {A = FirstMark} (cond t (m ∷ x ∷ xs) (cond u (x ∷ xs) (x ∷ l))) ≤ suc (suc (length xs))
+    by true u l h = omega arith
+    by false true l h = omega arith
+    by false false l h = omega arith
+
+module _ (m d : FirstMark) where
+  -- the place of the first mark that does not lie before it
+  abbrev pub place : List FirstMark → ℕ
+  place xs = position_or_len (λ (x : FirstMark). leb m.bar_index x.bar_index) xs
+
+  pub kept : (xs : List FirstMark) → place xs < length xs → (get_or xs (place xs) d).bar_index ≡ m.bar_index → xs ≡ insert_first xs m
+  unfolding insert_first
+  kept [] h e = absurd (omega arith)
+  kept (x ∷ xs) h e = by (leb m.bar_index x.bar_index) refl (kept xs) h e
+    where
+      by :
+          (b : Bool) → leb m.bar_index x.bar_index ≡ b
+          → (place xs < length xs → (get_or xs (place xs) d).bar_index ≡ m.bar_index → xs ≡ insert_first xs m)
+          → cond (not b) (1 + place xs) 0 < suc (length xs)
+          → (get_or (x ∷ xs) (cond (not b) (1 + place xs) 0) d).bar_index ≡ m.bar_index → x ∷ xs ≡ insert_first (x ∷ xs) m
+      by true w f h e =
+          let low : x.bar_index ≤ m.bar_index = omega (arith, e) in
+          rw (insert_first, le-ltb _ _ low, eq-eqb _ _ (sym e))
+      by false w f h e =
+          let low : x.bar_index < m.bar_index = leb-false _ _ w in
+          let later : m.bar_index ≡ x.bar_index → ⊥ = λ (e : m.bar_index ≡ x.bar_index). omega arith in
+          let one : 1 + place xs ≡ suc (place xs) = omega arith in
+          rw (insert_first, le-ltb m.bar_index x.bar_index (omega arith), ne_eqb _ _ later)
+          (ap (λ (l : List FirstMark). x ∷ l) (f (omega arith) (rw one at e)))
+
+  pub put :
+      (xs : List FirstMark) → (place xs < length xs → (get_or xs (place xs) d).bar_index ≡ m.bar_index → ⊥)
+      → take (place xs) xs ++ m ∷ drop (place xs) xs ≡ insert_first xs m
+  unfolding insert_first
+  put [] h = refl
+  put (x ∷ xs) h = by (leb m.bar_index x.bar_index) refl (put xs) h
+    where
+      by :
+          (b : Bool) → leb m.bar_index x.bar_index ≡ b
+          → ((place xs < length xs → (get_or xs (place xs) d).bar_index ≡ m.bar_index → ⊥) → take (place xs) xs ++ m ∷ drop (place xs) xs ≡ insert_first xs m)
+          → (cond (not b) (1 + place xs) 0 < suc (length xs) → (get_or (x ∷ xs) (cond (not b) (1 + place xs) 0) d).bar_index ≡ m.bar_index → ⊥)
+          → take (cond (not b) (1 + place xs) 0) (x ∷ xs) ++ m ∷ drop (cond (not b) (1 + place xs) 0) (x ∷ xs) ≡ insert_first (x ∷ xs) m
+      by true w f h =
+          let low : m.bar_index ≤ x.bar_index = leb-true _ _ w in
+          let other : x.bar_index ≡ m.bar_index → ⊥ = h (omega arith) in
+          rw (insert_first, lt-ltb m.bar_index x.bar_index (omega arith))
+      by false w f h =
+          let low : x.bar_index < m.bar_index = leb-false _ _ w in
+          let later : m.bar_index ≡ x.bar_index → ⊥ = λ (e : m.bar_index ≡ x.bar_index). omega arith in
+          let one : 1 + place xs ≡ suc (place xs) = omega arith in
+          rw (one, insert_first, le-ltb m.bar_index x.bar_index (omega arith), ne_eqb _ _ later)
+          (ap (λ (l : List FirstMark). x ∷ l) (f (λ (k : place xs < length xs). rw one at h (omega arith))))
+
+  module _ (xs : List FirstMark) where
+    abbrev pub first : code.Option.Option ℕ
+    first = position (λ (x : FirstMark). leb m.bar_index x.bar_index) xs
+
+    pub found : (i : ℕ) → first ≡ Some i → (place xs ≡ i) × (i < length xs)
+    found i e = by (ltb (place xs) (length xs)) refl e
+      where
+        by : (b : Bool) → ltb (place xs) (length xs) ≡ b → cond b (Some (place xs)) None ≡ Some i → (place xs ≡ i) × (i < length xs)
+        by true w e = let same : place xs ≡ i = cc in (same, rw same at (ltb-true _ _ w))
+        by false w e = cc
+
+    pub behind : first ≡ None → xs ++ m ∷ [] ≡ insert_first xs m
+    behind e = by (ltb (place xs) (length xs)) refl e
+      where
+        by : (b : Bool) → ltb (place xs) (length xs) ≡ b → cond b (Some (place xs)) None ≡ None → xs ++ m ∷ [] ≡ insert_first xs m
+        by true w e = cc
+        by false w e =
+            let long : length xs ≤ place xs = ltb-false _ _ w in
+            let all : take (place xs) xs ≡ xs = take_all (place xs) xs long in
+            let none_behind : drop (place xs) xs ≡ [] = drop_of_length-le xs {i = place xs} long in
+            rw (all, none_behind) at (put xs (λ (k : place xs < length xs) (e : (get_or xs (place xs) d).bar_index ≡ m.bar_index). omega arith))
+
+    pub kept-at : (i : ℕ) → first ≡ Some i → (get_or xs i d).bar_index ≡ m.bar_index → xs ≡ insert_first xs m
+    kept-at i e h = let at = found i e in kept xs (omega arith) (rw at.0 h)
+
+-- the place is one of the first `count` of an array
+pub put-at :
+    (m d : FirstMark) (rows : List FirstMark) (count i : ℕ) → first m d (take count rows) ≡ Some i → count ≤ length rows
+    → ((get_or (take count rows) i d).bar_index ≡ m.bar_index → ⊥)
+    → take i rows ++ m ∷ drop i (take count rows) ≡ insert_first (take count rows) m
+put-at m d rows count i e h other =
+    let xs = take count rows in
+    let at = found m d xs i e in
+    let long = length-take-le count rows h in
+    let same : take i xs ≡ take i rows = take-take i count rows (omega arith) in
+    rw (← same)
+    (rw at.0 at (put m d xs (λ (k : place m d xs < length xs) (b : (get_or xs (place m d xs) d).bar_index ≡ m.bar_index). other (rw at.0 at b))))
 
 -- what an array's place outside holds
 abbrev pub no_mark : FirstMark
 no_mark = record { bar_index = 0; price = nan; is_buy = false }
-
--- ---- the bars of marks rise as bars that are put in do
-
-insert_bars : (xs : List FirstMark) (m : FirstMark) → bars_of (insert_first xs m) ≡ insert_bar (bars_of xs) m.bar_index
-unfolding insert_first insert_bar
-insert_bars [] m = refl
-insert_bars (x ∷ xs) m = rw (← insert_bars xs m) (go (ltb m.bar_index x.bar_index) (eqb m.bar_index x.bar_index) (insert_first xs m))
-  where
-    go :
-        (t u : Bool) (l : List FirstMark) → bars_of (cond t (m ∷ x ∷ xs) (cond u (x ∷ xs) (x ∷ l)))
-        ≡ cond t (bars_of (m ∷ x ∷ xs)) (cond u (bars_of (x ∷ xs)) (bars_of (x ∷ l)))
-    go true u l = refl
-    go false true l = refl
-    go false false l = refl
-
-pub insert_rises : (xs : List FirstMark) (m : FirstMark) → Rising (bars_of xs) → Rising (bars_of (insert_first xs m))
-insert_rises xs m r = rw (insert_bars xs m) (inserts_rising (bars_of xs) (m.bar_index ∷ []) r)
-
--- ---- one row
-
--- a row stands before those behind it
-insert_front : (x : FirstMark) (xs : List FirstMark) → Rising (bars_of (x ∷ xs)) → insert_first xs x ≡ x ∷ xs
-unfolding insert_first
-insert_front x [] r = refl
-insert_front x (y ∷ ys) (then (cons h a) s) = rw (insert_first, lt-ltb _ _ h)
-
-rises_on : (x : FirstMark) (xs : List FirstMark) → Rising (bars_of (x ∷ xs)) → Rising (bars_of xs)
-rises_on x xs (then a s) = s
-
--- of the first `count` rows those before place k are passed, and `held` belongs among those from there on
-pub record Inserting (count : ℕ) (goal : List FirstMark) (k : ℕ) (rows : List FirstMark) (held : FirstMark) : Type 0 where
-  pub long : length rows ≡ 256
-  pub within : k ≤ count
-  pub left : take k rows ++ insert_first (drop k (take count rows)) held ≡ goal
-  pub rises : Rising (bars_of (drop k (take count rows)))
-
-module _ (count k : ℕ) (rows : List FirstMark) (m : FirstMark) (goal : List FirstMark) (few : count < 256) (i : Inserting count goal k rows m) where
-  pub inserting-last : count ≤ k → take (count + 1) (set rows count m) ≡ goal
-  unfolding insert_first
-  inserting-last h =
-      let over = left-none count k rows h (omega (arith, i.long)) in
-      put_last rows count k m goal (omega (arith, i.long)) (rw over (rw over at i.left)) h i.within
-
-  module _ (h : k < count) where
-    abbrev x : FirstMark
-    x = get_or rows k no_mark
-
-    abbrev xs : List FirstMark
-    xs = drop (k + 1) (take count rows)
-
-    more : drop k (take count rows) ≡ x ∷ xs
-    more = left-more count k rows no_mark h (omega (arith, i.long))
-
-    here : take k rows ++ insert_first (x ∷ xs) m ≡ goal
-    here = rw more at i.left
-
-    rising : Rising (bars_of (x ∷ xs))
-    rising = rw more at i.rises
-
-    pub inserting-kept : m.bar_index ≡ x.bar_index → take count rows ≡ goal
-    unfolding insert_first
-    inserting-kept e =
-        let at_least : x.bar_index ≤ m.bar_index = omega arith in
-        sym (taken-whole rows count k i.within) ∙ (rw more (rw (insert_first, le-ltb _ _ at_least, eq-eqb _ _ e) at here))
-
-    pub inserting-later : x.bar_index < m.bar_index → Inserting count goal (k + 1) rows m
-    unfolding insert_first
-    inserting-later b =
-        let at_least : x.bar_index ≤ m.bar_index = omega arith in
-        let other : m.bar_index ≡ x.bar_index → ⊥ = λ e. omega arith in
-        record {
-          long = i.long;
-          within = omega arith;
-          left = rw (one-taken rows k no_mark (omega (arith, i.long)), append_assoc) (rw (insert_first, le-ltb _ _ at_least, ne_eqb _ _ other) at here);
-          rises = rises_on x xs rising;
-        }
-
-    -- it goes to place k, and the row there belongs in front of those behind it
-    pub inserting-here : m.bar_index < x.bar_index → Inserting count goal (k + 1) (set rows k m) x
-    unfolding insert_first
-    inserting-here b =
-        let same : drop (k + 1) (take count (set rows k m)) ≡ xs =
-        (rw (take-set-lt count rows k m h) (drop-set-lt (k + 1) (take count rows) k m (omega arith))) in
-        let moved = put_next rows count k m goal (omega (arith, i.long)) (rw more (rw (insert_first, lt-ltb _ _ b) at here)) no_mark h in
-        record {
-          long = length-set rows k m ∙ i.long;
-          within = omega arith;
-          left = rw (same, insert_front x xs rising) (rw same at moved);
-          rises = rw same (rises_on x xs rising);
-        }

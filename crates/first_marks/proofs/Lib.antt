@@ -1,3 +1,3 @@
-pub mod Insertion
 pub mod Neighbours
+pub mod Insertion
 pub mod Call

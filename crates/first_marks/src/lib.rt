@@ -2,24 +2,21 @@
 
 #![tactic(auto)]
 
-ghost use Rattle.std.specs.Prelude.{◌+◌, ◌<◌, ◌≤◌, ◌≡◌, true, false, take};
+ghost use Rattle.std.specs.Prelude.{◌<◌, ◌≤◌, ◌≡◌, true, false, length, leb};
+ghost use Rattle.std.proofs.Math.ListN.{get_elem?};
 ghost use mathlib.Core.List.{[], foldl};
-ghost use Rattle.rules.specs.Answer.{rows_answer, given};
+ghost use Rattle.std.specs.List.{position};
+ghost use Rattle.chart.specs.Table.{option_of};
+ghost use Rattle.rows.specs.Rows.{rows_in};
+ghost use Rattle.rules.specs.Lists.{and_then};
+ghost use Rattle.rules.specs.Answer.{rows_answer};
 ghost use Rattle.rules.specs.Records.{levels_of};
-ghost use Rattle.rules.specs.FirstMarks.{fitting, firsts_of, insert_first};
+ghost use Rattle.rules.specs.Ranges.{first_stroke};
+ghost use Rattle.rules.specs.FirstMarks.{fitting, first_of, firsts_of, insert_first};
 ghost use Rattle.rules.specs.Calls.{first_marks_call};
-ghost use Rattle.laws.specs.Lists.{Rising};
-ghost use Rattle.first_marks.specs.Placed.{Stands, bars_of};
 
-use chart::{Chart, Class, FirstMark};
-
-// The answer of a first-mark call: a number, and where it is 0 the first `count` rows.
-#[derive(Clone, Copy)]
-pub struct FirstRows {
-    pub number: u8,
-    pub count: u16,
-    pub rows: [FirstMark; 256],
-}
+use chart::{Chart, Class, FirstMark, Refusal, Stroke};
+use rows::Rows;
 
 const NO_MARK: FirstMark = FirstMark {
     bar_index: 0,
@@ -31,6 +28,7 @@ const NO_MARK: FirstMark = FirstMark {
 
 // Whether neighbouring classes q and n fit: for a buy, q is up, by case 3, adjacent and not extended, and n is down and by case 2; for a
 // sell, q is down and n up.
+#[tactic(auto, unfolding(rules::specs::FirstMarks::fitting))]
 fn fitting(buy: bool, q: Class, n: Class) -> bool
     ensures { result ≡ fitting buy q n }
 {
@@ -42,114 +40,100 @@ fn fitting(buy: bool, q: Class, n: Class) -> bool
         & !n.by_case3
 }
 
-// ---- marks by bar
-
-// Marks, in the first `count` rows.
-#[derive(Clone, Copy)]
-struct Rows {
-    count: u16,
-    rows: [FirstMark; 256],
+// The first stroke of the big with an index, where it is there.
+#[tactic(auto, unfolding(rules::specs::Ranges::first_stroke, rules::specs::Records::levels_of))]
+fn first_stroke(chart: &Chart, big: u16) -> Option<Stroke>
+    ensures { option_of result ≡ and_then (get_elem? (levels_of chart.now).bigs big) (first_stroke (levels_of chart.now)) }
+{
+    let b = levels::record_at(chart.bigs(), big)?;
+    let a = levels::record_at(chart.segments(), b.first)?;
+    levels::record_at(chart.strokes(), a.first)
 }
 
-// The rows with a mark in its place by bar, those from there on one place further: their bars rise. The first mark of a bar is kept.
-fn inserted(rows: [FirstMark; 256], count: u16, mark: FirstMark) -> Rows
-    requires { (count < 256) × Rising (bars_of (take count rows)) }
-    ensures { (result.count ≤ count + 1) × (take result.count result.rows ≡ insert_first (take count rows) mark) }
+// The mark of neighbouring classes q and n of a side, where they fit and n ends beyond the start of q.
+fn mark_of(chart: &Chart, buy: bool, q: Class, n: Class) -> Option<FirstMark>
+    ensures { option_of result ≡ first_of (levels_of chart.now) buy q n }
 {
-    let mut next = rows;
-    let mut held = mark;
-    let mut k = 0u16;
-    while k < count {
-        let row = next[k as usize];
-        if held.bar_index == row.bar_index {
-            return Rows { count, rows: next };
-        }
-        if row.bar_index < held.bar_index {
-            k += 1;
+    if !fitting(buy, q, n) {
+        return None;
+    }
+    let start = first_stroke(chart, q.first)?;
+    let last = levels::record_at(chart.bigs(), n.last)?;
+    let end = levels::end_of(chart, last)?;
+    if !classes::beyond(q.direction, end.price, start.start_price) {
+        return None;
+    }
+    Some(FirstMark {
+        bar_index: end.bar,
+        price: end.price,
+        is_buy: buy,
+    })
+}
+
+// ---- marks by bar
+
+// The place of the first mark that does not lie before a bar.
+fn place_of(marks: &[FirstMark], bar: u16) -> Option<usize>
+    ensures { result ≡ position (λ m. leb bar m.bar_index) marks.now }
+{
+    marks.iter().position(|m| bar <= m.bar_index)
+}
+
+// A mark put in by its bar; the first mark of a bar is kept.
+fn insert(marks: &mut Rows<FirstMark, 256>, mark: FirstMark)
+    requires room { marks.old.count < 256 }
+    ensures { rows_in marks.new ≡ insert_first (rows_in marks.old) mark }
+{
+    let Some(at) = place_of(marks.listed(), mark.bar_index) else {
+        marks.push(mark);
+        return;
+    };
+    if marks.listed()[at].bar_index != mark.bar_index {
+        marks.insert(at, mark);
+    }
+}
+
+// The marks of a side over classes of bigs.
+fn marks_of(chart: &Chart, classes: &[Class], buy: bool) -> Rows<FirstMark, 256>
+    requires few { length classes.now ≤ 256 }
+    ensures { rows_in result ≡ foldl insert_first [] (firsts_of (levels_of chart.now) buy classes.now) }
+{
+    let mut marks = Rows::new(NO_MARK);
+    for pair in classes.windows(2) {
+        let Some(mark) = mark_of(chart, buy, pair[0], pair[1]) else {
             continue;
-        }
-        next[k as usize] = held;
-        held = row;
-        k += 1;
+        };
+        insert(&mut marks, mark);
     }
-    next[count as usize] = held;
-    Rows {
-        count: count + 1,
-        rows: next,
-    }
+    marks
 }
 
 // ---- the calls
 
-// The marks of a side over n classes of bigs: q and `next` are neighbours, s is the first stroke of q, and e the last of `next`. Strokes of
-// classes are there, so that no index is tested; marks are fewer than classes, so that there is always a row for one more.
-fn marks_of(chart: Chart, classes: [Class; 256], n: u16, buy: bool) -> FirstRows
-    requires { (n ≤ 256) × Stands (levels_of chart) (take n classes) }
-    ensures { rows_answer result.number result.count result.rows ≡ given (foldl insert_first [] (firsts_of (levels_of chart) buy (take n classes))) }
-{
-    let mut rows = [NO_MARK; 256];
-    let mut count = 0u16;
-    let mut i = 0u16;
-    while i + 1 < n {
-        let q = classes[i as usize];
-        let next = classes[(i + 1) as usize];
-        if !fitting(buy, q, next) {
-            i += 1;
-            continue;
-        }
-        let opening = chart.bigs[q.first as usize];
-        let a = chart.segments[opening.first as usize];
-        let s = chart.strokes[a.first as usize];
-        let closing = chart.bigs[next.last as usize];
-        let z = chart.segments[closing.last as usize];
-        let e = chart.strokes[z.last as usize];
-        if !classes::beyond(q.direction, e.end_price, s.start_price) {
-            i += 1;
-            continue;
-        }
-        let mark = FirstMark {
-            bar_index: e.end_bar,
-            price: e.end_price,
-            is_buy: buy,
-        };
-        let more = inserted(rows, count, mark);
-        rows = more.rows;
-        count = more.count;
-        i += 1;
-    }
-    FirstRows {
-        number: 0,
-        count,
-        rows,
-    }
-}
-
 // The first marks of a side, with the case-3 byte: refused as the classes of bigs are, with 21, 2 or 10.
-fn first_markers(chart: Chart, case3: u8, buy: bool) -> FirstRows
-    ensures { rows_answer result.number result.count result.rows ≡ first_marks_call buy chart case3 }
+fn first_markers(chart: &Chart, case3: u8, buy: bool) -> Result<Rows<FirstMark, 256>, Refusal>
+    ensures { rows_answer result ≡ first_marks_call buy chart.now case3 }
 {
-    let found = classes::classify_sup_segments(chart, case3);
-    if found.number != 0 {
-        return FirstRows {
-            number: found.number,
-            count: 0,
-            rows: [NO_MARK; 256],
-        };
-    }
-    let rows = found.rows;
-    marks_of(chart, rows, found.count, buy)
+    let classes = classes::classify_sup_segments(chart, case3)?;
+    Ok(marks_of(chart, classes.listed(), buy))
 }
 
 // The first buys.
-pub fn detect_bigseg_first_buy_markers(chart: Chart, case3: u8) -> FirstRows
-    ensures { rows_answer result.number result.count result.rows ≡ first_marks_call true chart case3 }
+pub fn detect_bigseg_first_buy_markers(
+    chart: &Chart,
+    case3: u8,
+) -> Result<Rows<FirstMark, 256>, Refusal>
+    ensures { rows_answer result ≡ first_marks_call true chart.now case3 }
 {
     first_markers(chart, case3, true)
 }
 
 // The first sells.
-pub fn detect_bigseg_first_sell_markers(chart: Chart, case3: u8) -> FirstRows
-    ensures { rows_answer result.number result.count result.rows ≡ first_marks_call false chart case3 }
+pub fn detect_bigseg_first_sell_markers(
+    chart: &Chart,
+    case3: u8,
+) -> Result<Rows<FirstMark, 256>, Refusal>
+    ensures { rows_answer result ≡ first_marks_call false chart.now case3 }
 {
     first_markers(chart, case3, false)
 }

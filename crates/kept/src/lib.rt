@@ -2,29 +2,24 @@
 
 #![tactic(auto)]
 
-ghost use Rattle.std.specs.Prelude.{◌≡◌, false, ◌≤◌, take};
-ghost use Rattle.price.specs.Price.{Price};
-ghost use Rattle.rules.specs.Lists.{any};
+ghost use Rattle.std.specs.Prelude.{◌≡◌, length};
 ghost use Rattle.rules.specs.Refusals.{same_price, same_zone, same_zones, bad_live};
-ghost use Rattle.kept.specs.ZonePrices.{unpriced};
 
 use chart::{Chart, Zone};
+use std::num::f64_to_bits_with_nan;
 
-// Whether a price is the same as another, as data: what is no price is never the same as one.
+// Whether two prices are the same as data, bit for bit. == is another relation: there 0 is -0, and no NaN is itself.
+#[tactic(auto, unfolding(rules::specs::Refusals::same_price))]
 fn same_price(a: f64, b: f64) -> bool
-    requires { Price b }
     ensures { result ≡ same_price a b }
 {
-    if price::is_price(a) {
-        return price::bits_of_price(a) == price::bits_of_price(b);
-    }
-    false
+    f64_to_bits_with_nan(a) == f64_to_bits_with_nan(b)
 }
 
 // Whether two zones are the same in every field. All are compared: zones that were kept are nearly always the same.
-fn same_zone(a: Zone, b: Zone) -> bool
-    requires { unpriced b ≡ false }
-    ensures { result ≡ same_zone a b }
+#[tactic(auto, unfolding(rules::specs::Refusals::same_zone))]
+fn same_zone(a: &Zone, b: &Zone) -> bool
+    ensures { result ≡ same_zone a.now b.now }
 {
     (a.sup_idx == b.sup_idx)
         & (a.start_bar == b.start_bar)
@@ -39,38 +34,21 @@ fn same_zone(a: Zone, b: Zone) -> bool
         & (a.gg_bar == b.gg_bar)
 }
 
-// Whether the first n of some zones are the first m of others.
-fn same_zones(a: [Zone; 256], n: u16, b: [Zone; 256], m: u16) -> bool
-    requires { (n ≤ 256) × (m ≤ 256) × (any unpriced (take m b) ≡ false) }
-    ensures { result ≡ same_zones (take n a) (take m b) }
+// Whether some zones are the same as others, in the same order.
+#[tactic(auto, unfolding(rules::specs::Refusals::same_zones))]
+fn same_zones(a: &[Zone], b: &[Zone]) -> bool
+    ensures { result ≡ same_zones a.now b.now }
 {
-    if n != m {
-        return false;
-    }
-    let mut i = 0u16;
-    while i < n {
-        let x = a[i as usize];
-        let y = b[i as usize];
-        if !same_zone(x, y) {
-            return false;
-        }
-        i += 1;
-    }
-    true
+    a.len() == b.len() && a.iter().zip(b).all(|(x, y)| same_zone(x, y))
 }
 
-// 21 of a live call on a chart that keeps the first n of these zones.
-pub fn bad_live(chart: Chart, zones: [Zone; 256], n: u16) -> bool
-    ensures { result ≡ bad_live (record { chart = chart; zones = zones; zone_count = n }) }
+// 21 of a live call on a chart that keeps these zones.
+pub fn bad_live(chart: &Chart, kept: &[Zone]) -> bool
+    ensures { result ≡ bad_live (record { chart = chart.now; zones = kept.now; zone_count = length kept.now }) }
 {
-    if 256 < n {
+    let Ok(found) = zones::detect_bigseg_zhongshus_by_overlap(chart) else {
         return true;
-    }
-    let found = zones::detect_bigseg_zhongshus_by_overlap(chart);
-    if found.number != 0 {
-        return true;
-    }
+    };
     let broken = calls::broken_levels(chart);
-    let rows = found.rows;
-    broken | !same_zones(zones, n, rows, found.count)
+    broken || !same_zones(kept, found.listed())
 }

@@ -1,40 +1,17 @@
 -- Laws of bytes behind a label, and of names: a name of a u64 has at most 14 letters. Assumes nothing.
 use mathlib.Core.Path.{◌≡◌, refl, ap, ◌∙◌}
 use mathlib.Core.Bool.{Bool, true, false}
-use mathlib.Core.List.{List, [], ◌∷◌, ◌++◌, append_assoc}
+use mathlib.Core.List.{[], ◌∷◌, append_assoc}
 use Prim.Native.Nat.{ℕ, zero, suc, ◌+◌, ◌-◌, ◌/◌, ◌^◌, ◌≤◌, ◌<◌}
 use native.Mathlib.Nat.{pow-succ'}
-use native.Mathlib.Numerals.{add-one}
 use native.Mathlib.Omega.{arith}
-use lib.ListN.{length, set, length-append}
-use lib.Seq.{take-suc-set}
+use lib.ListN.{length, length-append}
 use lib.Dec.{ltb}
 use borrow.Author.Tests.{ltb-true, ltb-false}
 use Rattle.chart.specs.declared.Label.{Label}
 use Rattle.rules.specs.Labels.{letter, col_name}
 use Rattle.laws.proofs.Names.{name_small, name_large}
 use Rattle.labels.specs.Bytes.{label_bytes, Extends}
-
--- ---- bytes behind a label
-
--- one byte stored behind a label's own
-pub pushed : (l : Label) (b : ℕ) → length l.bytes ≡ 16 → l.len < 16 → Extends l (b ∷ []) (record { bytes = set l.bytes l.len b; len = l.len + 1 })
-pushed l b all room = record { text = rw (add-one, take-suc-set l.bytes l.len b (omega arith)); long = refl }
-
-module _ (l m r : Label) (first more : List ℕ) where
-  pub extends-both : Extends l first m → Extends m more r → Extends l (first ++ more) r
-  extends-both f g =
-      record {
-        text = g.text ∙ rw f.text (append_assoc (label_bytes l) first more);
-        long = omega (arith, f.long, g.long, length-append first more);
-      }
-
--- 扩
-pub extended :
-    (l a b r : Label) → Extends l (0xE6 ∷ []) a → Extends a (0x89 ∷ []) b → Extends b (0xA9 ∷ []) r → Extends l (0xE6 ∷ 0x89 ∷ 0xA9 ∷ []) r
-extended l a b r f g h = extends-both l b r (0xE6 ∷ 0x89 ∷ []) (0xA9 ∷ []) (extends-both l a b (0xE6 ∷ []) (0x89 ∷ []) f g) h
-
--- ---- names
 
 -- a name has at most k letters below 26 ^ k - 1, so that of a u64 at most 14
 name_short : (k n : ℕ) → n + 1 < 26 ^ k → length (col_name n) ≤ k
@@ -61,5 +38,11 @@ module _ (l r : Label) (n x : ℕ) (e : x ≡ letter n) where
   pub named_small : n < 26 → Extends l (x ∷ []) r → Extends l (col_name n) r
   named_small h g = rw (name_small n h, ← e) g
 
-  pub named-large : (m : Label) → 26 ≤ n → Extends l (col_name (n / 26 - 1)) m → Extends m (x ∷ []) r → Extends l (col_name n) r
-  named-large m h f g = rw (name_large n h, ← e) (extends-both l m r (col_name (n / 26 - 1)) (x ∷ []) f g)
+  pub named_large : (m : Label) → 26 ≤ n → Extends l (col_name (n / 26 - 1)) m → Extends m (x ∷ []) r → Extends l (col_name n) r
+  named_large m h f g =
+      let name = name_large n h in
+      rw (name, ← e)
+      (record {
+        text = g.text ∙ rw f.text (append_assoc (label_bytes l) (col_name (n / 26 - 1)) (x ∷ []));
+        long = omega (arith, f.long, g.long, length-append (col_name (n / 26 - 1)) (x ∷ []));
+      })

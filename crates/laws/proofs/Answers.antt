@@ -1,28 +1,24 @@
--- What a result's struct stands for, and a call on a chart behind its 21. Assumes nothing.
+-- What a result stands for, and a call on a chart behind its 21. Assumes nothing.
 use Prim.Native.Nat.{ℕ, zero, suc, ◌≤◌, ◌<◌}
 use native.Mathlib.Omega.{arith}
 use mathlib.Core.Path.{◌≡◌, refl, sym}
 use mathlib.Core.Bool.{Bool, true, false, cond}
-use mathlib.Core.List.{List, []}
-use lib.ListN.{length, take}
-use lib.Dec.{eqb, leb, ltb}
-use borrow.Author.Tests.{le-leb, leb-true, ltb-false}
+use mathlib.Core.List.{[]}
+use lib.ListN.{length}
+use lib.Dec.{ltb}
+use borrow.Author.Tests.{le-leb, ltb-false}
+use Rattle.std.specs.Prelude.{Ok, Err}
 use Rattle.chart.specs.declared.Chart.{Chart}
-use Rattle.rules.specs.Answer.{Answer, refused, given, answered, rows_answer}
+use Rattle.chart.specs.declared.Refusal.{Refusal}
+use Rattle.chart.specs.declared.Refusal.TheVariants as why
+use Rattle.chart.specs.Numbers.{number_of, number_in}
+use Rattle.rows.specs.declared.Rows.{Rows}
+use Rattle.std.specs.declared.result.Result.{Result}
+use Rattle.rules.specs.Answer.{Answer, refused, given, answered, counted_answer, answer_of, rows_answer, count_in, places_in}
 use Rattle.rules.specs.Records.{Levels, levels_of}
 use Rattle.rules.specs.Refusals.{overfull, bad_levels, bad_chart}
 use Rattle.rules.specs.Calls.{on_chart}
 use Rattle.laws.proofs.Tests.{or_l, none_of_four}
-
-module _ {A : Type 0} (rows : List A) where
-  pub refused-rows : (n : ℕ) → 0 < n → rows_answer n 0 rows ≡ refused n
-  unfolding rows_answer
-  refused-rows zero h = absurd (omega arith)
-  refused-rows (suc n) h = refl
-
-  pub given-rows : (count : ℕ) → count ≤ length rows → rows_answer 0 count rows ≡ given (take count rows)
-  unfolding rows_answer
-  given-rows count h = rw (le-leb count (length rows) h)
 
 refused_given : {A : Type 0} {n : ℕ} {a : A} → ◌≡◌ {A = Answer A} (refused n) (given a) → ⊥
 refused_given e = let z : ◌≡◌ {A = ℕ} 0 1 = cc in omega arith
@@ -45,40 +41,49 @@ module _ {A : Type 0} where
   unfolding answered
   same-given a b e = cc
 
--- what a struct that stands for an answer has: the rows that are given, or the number of the refusal
-module _ {A : Type 0} (count : ℕ) (rows : List A) (r : ℕ) (l : List A) where
-  pub record Rows : Type 0 where
-    pub accepted : r ≡ 0
-    pub few : count ≤ length rows
-    pub same : take count rows ≡ l
+-- every refusal has a number
+pub positive : (e : Refusal) → 0 < number_of e
+positive why.Price = omega arith
+positive why.Above = omega arith
+positive why.Full = omega arith
+positive why.Order = omega arith
+positive why.Below = omega arith
+positive why.Held = omega arith
+positive why.Empty = omega arith
+positive why.Slices = omega arith
+positive why.Outside = omega arith
+positive why.Lacking = omega arith
+positive why.Zones = omega arith
+positive why.Mark = omega arith
+positive why.Cut = omega arith
+positive why.Apart = omega arith
+positive why.Bar = omega arith
+positive why.Chart = omega arith
 
-  pub rows-given : rows_answer 0 count rows ≡ answered r l → Rows
-  unfolding rows_answer answered
-  rows-given e = go (leb count (length rows)) refl r refl e
+-- what a result that stands for an answer has: what is given, or the number of the refusal
+module _ {A B : Type 0} (f : A → B) (r : ℕ) (l : B) where
+  pub ok-answer : (a : A) → r ≡ 0 → f a ≡ l → answer_of f (Ok a) ≡ answered r l
+  unfolding answered
+  ok-answer a z e = rw (z, e)
+
+  pub err-answer : (e : Refusal) → r ≡ number_of e → answer_of f (Err e) ≡ answered r l
+  err-answer e z = sym (answered_refused r (number_of e) l (λ (n : number_of e ≡ 0). omega (arith, positive e)) z)
+
+  pub answer-ok : (a : A) → answer_of f (Ok a) ≡ answered r l → (r ≡ 0) × (f a ≡ l)
+  unfolding answered
+  answer-ok a e = go r refl
     where
-      go :
-          (t : Bool) → leb count (length rows) ≡ t → (k : ℕ) → r ≡ k
-          → cond t (given (take count rows)) (refused 0) ≡ answered k l → Rows
-      go true f zero g h = record { accepted = g; few = leb-true count (length rows) f; same = cc }
-      go true f (suc k) g h = absurd (refused_given (sym h))
-      go false f zero g h = absurd (refused_given h)
-      go false f (suc k) g h = let z : 0 ≡ suc k = cc in absurd (omega arith)
+      go : (k : ℕ) → r ≡ k → (r ≡ 0) × (f a ≡ l)
+      go zero z = let g : given (f a) ≡ answered 0 l = rw z at e in (z, cc)
+      go (suc k) z = let g : given (f a) ≡ answered (suc k) l = rw z at e in absurd (refused_given (sym g))
 
-  pub rows_refused : (n : ℕ) → (n ≡ 0 → ⊥) → rows_answer n count rows ≡ answered r l → r ≡ n
-  unfolding rows_answer answered
-  rows_refused zero h e = absurd (h refl)
-  rows_refused (suc n) h e = go (eqb count 0) r refl e
+  pub answer-err : (e : Refusal) → answer_of f (Err e) ≡ answered r l → r ≡ number_of e
+  unfolding answered
+  answer-err x e = go r refl
     where
-      go : (t : Bool) (k : ℕ) → r ≡ k → cond t (refused (suc n)) (refused 0) ≡ answered k l → r ≡ suc n
-      go true zero g f = absurd (refused_given f)
-      go true (suc k) g f = let z : suc n ≡ suc k = cc in omega arith
-      go false zero g f = absurd (refused_given f)
-      go false (suc k) g f = let z : 0 ≡ suc k = cc in absurd (omega arith)
-
-  -- the number is the refusal's, 0 where there is none
-  pub rows-number : (n : ℕ) → rows_answer n count rows ≡ answered r l → n ≡ r
-  rows-number zero e = sym (rows-given e).accepted
-  rows-number (suc n) e = sym (rows_refused (suc n) (λ (z : suc n ≡ 0). omega arith) e)
+      go : (k : ℕ) → r ≡ k → r ≡ number_of x
+      go zero z = let g : refused (number_of x) ≡ answered 0 l = rw z at e in absurd (refused_given g)
+      go (suc k) z = let g : refused (number_of x) ≡ answered (suc k) l = rw z at e in cc
 
 module _ {A : Type 0} (c : Chart) (f : Levels → Answer A) where
   pub on-bad : bad_chart c ≡ true → on_chart c f ≡ refused 21
@@ -89,34 +94,45 @@ module _ {A : Type 0} (c : Chart) (f : Levels → Answer A) where
   unfolding on_chart
   on-good e = rw e
 
--- What a struct that stands for the answer of a call on a chart tells: the number, and where it is 0 the rows
-module _
-    {A : Type 0}
-    (c : Chart)
-    (r : Levels → ℕ)
-    (l : Levels → List A)
-    (number count : ℕ)
-    (rows : List A)
-    (e : rows_answer number count rows ≡ on_chart c (λ (x : Levels). answered (r x) (l x)))
-  where
-    pub call-bad : bad_chart c ≡ true → number ≡ 21
-    unfolding on_chart answered
-    call-bad b = rows-number count rows 21 [] number (rw b at e)
+-- the number, the count and the rows of a result stand for the answer that it stands for
+module _ {A : Type 0} {N : ℕ} where
+  pub counted-answer :
+      (o : Result (Rows A N) Refusal) → ((r : Rows A N) → o ≡ Ok r → r.count ≤ length r.rows)
+      → counted_answer (number_in o) (count_in o) (places_in o) ≡ rows_answer o
+  unfolding counted_answer
+  counted-answer (Ok r) h = rw (le-leb r.count (length r.rows) (h r refl))
+  counted-answer (Err e) h = go (number_of e) refl
+    where
+      go : (k : ℕ) → number_of e ≡ k → counted_answer {A = A} k 0 [] ≡ refused k
+      go zero z = absurd (omega (arith, positive e))
+      go (suc k) z = refl
 
-    pub call-number : bad_chart c ≡ false → number ≡ r (levels_of c)
-    unfolding on_chart
-    call-number b = rows-number count rows (r (levels_of c)) (l (levels_of c)) number (rw b at e)
+-- What a result that stands for the answer of a call on a chart tells: that the chart is good and what is given, or the number
+module _ {A B : Type 0} (f : A → B) (c : Chart) (r : Levels → ℕ) (l : Levels → B) where
+  pub record Called (a : A) : Type 0 where
+    pub good : bad_chart c ≡ false
+    pub accepted : r (levels_of c) ≡ 0
+    pub same : f a ≡ l (levels_of c)
 
-    pub call-good : number ≡ 0 → bad_chart c ≡ false
-    call-good z = go (bad_chart c) refl
-      where
-        go : (t : Bool) → bad_chart c ≡ t → t ≡ false
-        go true b = absurd (omega (arith, call-bad b))
-        go false b = refl
+  pub call-ok : (a : A) → answer_of f (Ok a) ≡ on_chart c (λ (x : Levels). answered (r x) (l x)) → Called a
+  unfolding on_chart
+  call-ok a e = go (bad_chart c) refl
+    where
+      go : (t : Bool) → bad_chart c ≡ t → Called a
+      go true b = let g : given (f a) ≡ refused 21 = rw b at e in absurd (refused_given (sym g))
+      go false b =
+          let h = answer-ok f (r (levels_of c)) (l (levels_of c)) a (rw b at e) in
+          record { good = b; accepted = h.0; same = h.1 }
 
-    pub call_rows : number ≡ 0 → Rows count rows (r (levels_of c)) (l (levels_of c))
-    unfolding on_chart
-    call_rows z = rows-given count rows (r (levels_of c)) (l (levels_of c)) (rw (z, call-good z) at e)
+  pub call-err :
+      (x : Refusal) → answer_of f (Err x) ≡ on_chart c (λ (x : Levels). answered (r x) (l x))
+      → number_of x ≡ cond (bad_chart c) 21 (r (levels_of c))
+  unfolding on_chart
+  call-err x e = go (bad_chart c) refl
+    where
+      go : (t : Bool) → bad_chart c ≡ t → number_of x ≡ cond (bad_chart c) 21 (r (levels_of c))
+      go true b = let g : refused (number_of x) ≡ refused 21 = rw b at e in rw b cc
+      go false b = rw b (sym (answer-err f (r (levels_of c)) (l (levels_of c)) x (rw b at e)))
 
 -- a chart with counts within its arrays, as one has that is not refused with 21
 pub record Counted (c : Chart) : Type 0 where

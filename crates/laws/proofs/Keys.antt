@@ -12,6 +12,7 @@ use Rattle.rules.specs.Lists.{any}
 use Rattle.laws.specs.Lists.{Distinct}
 use Rattle.laws.proofs.Tests.{and_l, and_r}
 use Rattle.laws.proofs.Lists.{All, nil, cons, none_left, then, all_map, all_append, sorted-at, any_false}
+pub use Rattle.laws.specs.Keys.{Key}
 
 module _ {A : Type 0} where
   pub distinct_snoc : {xs : List A} {y : A} → Distinct xs → All (λ (x : A). x ≡ y → ⊥) xs → Distinct (xs ++ (y ∷ []))
@@ -57,11 +58,6 @@ module _ {A : Type 0} where
   pigeonhole (then a d) (cons m b) = omega (arith, pigeonhole d (all_without m a b), without-length m)
 
 -- ---- keys
-
--- the bar and the side of a mark
-pub record Key : Type 0 where
-  pub bar_index : ℕ
-  pub is_buy : Bool
 
 abbrev pub same : Key → Key → Bool
 same k j = eqb k.bar_index j.bar_index && beq k.is_buy j.is_buy

@@ -7,6 +7,7 @@ pub mod Extremes
 pub mod Bounds
 pub mod Rising
 pub mod Ranges
+pub mod RangeEnds
 pub mod Opposing
 pub mod Layer
 pub mod Zones

@@ -36,9 +36,7 @@ use Rattle.laws.proofs.Lists.{All, nil, cons, all_append, all-cond, all_keep, al
 use Rattle.laws.specs.Lists.{Distinct}
 use Rattle.laws.proofs.Keys.{one_place, Key, key_eq, same, same-eq, add_key, add_distinct}
 use Rattle.laws.proofs.Thirds.{third_key, thirds_distinct}
-
-abbrev pub mark_key : NMark → Key
-mark_key m = record { bar_index = m.bar_index; is_buy = m.is_buy }
+pub use Rattle.laws.specs.Keys.{mark_key}
 
 -- the marks that are put on the third marks
 abbrev pub later : Levels → Quotes → List NMark
@@ -73,11 +71,11 @@ put_key (x ∷ xs) m = go (same (mark_key x) (mark_key m)) refl (put_key xs m)
     go true e ih = kept (ltb m.order x.order) (same-eq (mark_key x) (mark_key m) e)
     go false e ih = ap (λ (l : List Key). mark_key x ∷ l) ih ∙ out (any (λ (j : Key). same j (mark_key m)) ks)
 
-puts_distinct : (ms l : List NMark) → Distinct (map mark_key ms) → Distinct (map mark_key (foldl push_3n ms l))
+pub puts_distinct : (ms l : List NMark) → Distinct (map mark_key ms) → Distinct (map mark_key (foldl push_3n ms l))
 puts_distinct ms [] d = d
 puts_distinct ms (m ∷ l) d = puts_distinct (push_3n ms m) l (rw (put_key ms m) (add_distinct (map mark_key ms) (mark_key m) d))
 
-zero_keys : (l : List ThirdMark) → map mark_key (map order_zero l) ≡ map third_key l
+pub zero_keys : (l : List ThirdMark) → map mark_key (map order_zero l) ≡ map third_key l
 unfolding order_zero
 zero_keys [] = refl
 zero_keys (m ∷ l) = rw (zero_keys l)

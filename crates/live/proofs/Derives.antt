@@ -1,16 +1,20 @@
 -- A level that is derived: the classes of the level below, as its records. Assumes nothing.
-use Prim.Native.Nat.{ℕ, ◌+◌, ◌≤◌, ◌<◌}
+use Prim.Native.Nat.{ℕ}
+use native.Mathlib.Omega.{arith}
 use mathlib.Core.Path.{◌≡◌, refl, sym, ap, ◌∙◌}
 use mathlib.Core.Bool.{true, not, false≢true}
 use mathlib.Core.List.{List, [], ◌∷◌, ◌++◌, map}
-use native.Mathlib.Numerals.{add-one}
-use lib.ListN.{length, take, set, get_or}
-use lib.Seq.{take-suc}
+use lib.ListN.{take}
 use lib.Dec.{eqb}
 use borrow.Author.Tests.{not-false}
+use Rattle.std.specs.Prelude.{Ok, Err}
 use Rattle.chart.specs.declared.Triple.{Triple}
 use Rattle.chart.specs.declared.Class.{Class}
 use Rattle.chart.specs.declared.Chart.{Chart}
+use Rattle.chart.specs.declared.Refusal.{Refusal}
+use Rattle.chart.specs.Numbers.{number_of}
+use Rattle.rows.specs.declared.Rows.{Rows}
+use Rattle.rows.specs.Rows.{rows_in}
 use Rattle.rules.specs.Answer.{rows_answer, answered}
 use Rattle.rules.specs.Lists.{is_empty}
 use Rattle.rules.specs.Records.{Levels, levels_of}
@@ -19,12 +23,11 @@ use Rattle.rules.specs.Refusals.{refuse, above_one, derive_refusal, segment_clas
 use Rattle.rules.specs.Calls.{on_chart, segment_classes_call, big_classes_call}
 use Rattle.rules.specs.Machine.{Call, derive_bigs, derive_superiors, as_triple, refusal, stepped}
 use Rattle.laws.proofs.Tests.{refuse_no, refuse-on}
-use Rattle.laws.proofs.Arrays.{one_more}
-use Rattle.laws.proofs.Lists.{map-append}
 use Rattle.laws.proofs.Whole.{never-10-segments, never-10-bigs}
-use Rattle.laws.proofs.Answers.{counted, call-number, call_rows}
+use Rattle.laws.proofs.Answers.{positive, counted, call-ok, call-err}
 use Rattle.laws.proofs.Levels.{Above, Level, above, big, superior, put, places, many, with_level, put_is, put-fits}
-use Rattle.live.specs.Steps.{Accepts, Steps}
+use Rattle.live.specs.Steps.{Good, Steps}
+use Rattle.live.proofs.Levelled.{Accepts, accepting}
 use Rattle.live.proofs.Outcomes.{ordered}
 
 -- ---- an accepted derive: the byte is 0 or 1, and the level is empty
@@ -43,78 +46,70 @@ good_byte : (ts : List Triple) (byte : ℕ) → derive_refusal ts byte ≡ 0 →
 unfolding derive_refusal refuse
 good_byte ts byte h = rw (refuse_no (above_one byte) 1 (refuse (not (is_empty ts)) 6 0) h)
 
--- ---- classes as records, one after another
+-- ---- the classes that a class call gives: its refusals do not arise, and they make an empty level's records
 
-pub one_class_more :
-    (i : ℕ) (ts : List Triple) (ks : List Class) (d : Class) (t : Triple) → i < length ts → i < length ks → t ≡ as_triple (get_or ks i d)
-    → take i ts ≡ map as_triple (take i ks) → take (i + 1) (set ts i t) ≡ map as_triple (take (i + 1) ks)
-one_class_more i ts ks d t h w e c =
-    rw (one_more ts i t h, c, e, add-one, take-suc ks i d w, map-append as_triple (take i ks) (get_or ks i d ∷ []))
-
--- ---- the chart that has the classes for its records
-
--- the classes ks, counted and in the first rows
-pub record Found (count : ℕ) (rows ks : List Class) : Type 0 where
-  pub few : count ≤ length rows
-  pub same : take count rows ≡ ks
-
-module _ (c : Chart) (k : Call) (u : Above) (ks : List Class) where
+module _ (c : Chart) (k : Call) (u : Above) (a : Accepts c k) (r : Levels → ℕ) (ks : Levels → List Class) (zero : r (levels_of c) ≡ 0) where
   abbrev l : Level
   l = above u
 
-  -- a call that appends these classes to an empty level
+  never : (e : Refusal) → rows_answer {N = 256} (Err e) ≡ on_chart c (λ (x : Levels). answered (r x) (ks x)) → ⊥
+  never e h =
+      let n = call-err (rows_in {T = Class} {N = 256}) c r ks e h in
+      let none : number_of e ≡ 0 = rw (a.good, zero) at n in
+      omega (arith, none, positive e)
+
   does :
-      Accepts c k → stepped (levels_of c) k ≡ with_level l (levels_of c) (take (many l c) (places l c) ++ map as_triple ks)
-      → take (many l c) (places l c) ≡ []
-      → (count : ℕ) (rows : List Class) (triples : List Triple) → count ≤ 256 → take count rows ≡ ks
-      → take count triples ≡ map as_triple (take count rows) → Steps c k (put l c triples count)
-  does a steps none count rows triples few r e =
+      stepped (levels_of c) k ≡ with_level l (levels_of c) (take (many l c) (places l c) ++ map as_triple (ks (levels_of c)))
+      → take (many l c) (places l c) ≡ [] → (found : Rows Class 256) (triples : Rows Triple 256)
+      → rows_answer (Ok found) ≡ on_chart c (λ (x : Levels). answered (r x) (ks x))
+      → rows_in triples ≡ map as_triple (rows_in found)
+      → Steps c k (put l c triples.rows triples.count)
+  does steps none found triples h e =
+      let same = (call-ok rows_in c r ks found h).same in
       record {
+        accepted = a.accepted;
         levels =
-            put_is c l triples count ∙ ap (with_level l (levels_of c)) (e ∙ ap (map as_triple) r)
-            ∙ ap (λ (ts : List Triple). with_level l (levels_of c) (ts ++ map as_triple ks)) (sym none)
+            put_is c l triples.rows triples.count ∙ ap (with_level l (levels_of c)) (e ∙ ap (map as_triple) same)
+            ∙ ap (λ (ts : List Triple). with_level l (levels_of c) (ts ++ map as_triple (ks (levels_of c)))) (sym none)
             ∙ sym steps;
-        fits = put-fits c l triples count (counted c a.good) few;
+        fits = put-fits c l triples.rows triples.count (counted c a.good) triples.inside;
       }
 
 module _ (c : Chart) (byte : ℕ) where
+  pub bigs-accepted : Good c → 0 ≡ derive_refusal (take c.big_count c.bigs) byte → Accepts c (derive_bigs byte)
+  unfolding refusal levels_of
+  bigs-accepted = accepting c (derive_bigs byte)
+
+  pub superiors-accepted : Good c → 0 ≡ derive_refusal (take c.superior_count c.superiors) byte → Accepts c (derive_superiors byte)
+  unfolding refusal levels_of
+  superiors-accepted = accepting c (derive_superiors byte)
+
   module _ (a : Accepts c (derive_bigs byte)) where
+    zero-bigs : segment_classes_refusal byte (levels_of c) ≡ 0
+    unfolding refusal
+    zero-bigs = never-10-segments (levels_of c) (ordered c _ a) byte ∙ good_byte _ byte a.accepted
+
+    pub bigs-never : (e : Refusal) → rows_answer {N = 256} (Err e) ≡ segment_classes_call c byte → ⊥
+    unfolding segment_classes_call
+    bigs-never = never c _ big a (segment_classes_refusal byte) (segment_classes (eqb byte 1)) zero-bigs
+
     pub bigs-does :
-        (count : ℕ) (rows : List Class) (triples : List Triple) → count ≤ 256 → take count rows ≡ segment_classes (eqb byte 1) (levels_of c)
-        → take count triples ≡ map as_triple (take count rows) → Steps c (derive_bigs byte) (put (above big) c triples count)
-    unfolding stepped refusal levels_of
-    bigs-does = does c (derive_bigs byte) big _ a refl (is-empty _ byte a.accepted)
+        (found : Rows Class 256) (triples : Rows Triple 256) → rows_answer (Ok found) ≡ segment_classes_call c byte
+        → rows_in triples ≡ map as_triple (rows_in found) → Steps c (derive_bigs byte) (put (above big) c triples.rows triples.count)
+    unfolding segment_classes_call stepped refusal levels_of
+    bigs-does = does c _ big a (segment_classes_refusal byte) (segment_classes (eqb byte 1)) zero-bigs refl (is-empty _ byte a.accepted)
 
   module _ (a : Accepts c (derive_superiors byte)) where
+    zero-superiors : big_classes_refusal byte (levels_of c) ≡ 0
+    unfolding refusal
+    zero-superiors = never-10-bigs (levels_of c) (ordered c _ a) byte ∙ good_byte _ byte a.accepted
+
+    pub superiors-never : (e : Refusal) → rows_answer {N = 256} (Err e) ≡ big_classes_call c byte → ⊥
+    unfolding big_classes_call
+    superiors-never = never c _ superior a (big_classes_refusal byte) (big_classes (eqb byte 1)) zero-superiors
+
     pub superiors-does :
-        (count : ℕ) (rows : List Class) (triples : List Triple) → count ≤ 256 → take count rows ≡ big_classes (eqb byte 1) (levels_of c)
-        → take count triples ≡ map as_triple (take count rows) → Steps c (derive_superiors byte) (put (above superior) c triples count)
-    unfolding stepped refusal levels_of
-    superiors-does = does c (derive_superiors byte) superior _ a refl (is-empty _ byte a.accepted)
-
--- ---- the classes that a class call gives, whose refusals do not arise: 2 was asked before, and 10 cannot
-
-module _ (c : Chart) (k : Call) (a : Accepts c k) (number count : ℕ) (rows : List Class) where
-  found :
-      (r : Levels → ℕ) (l : Levels → List Class) → r (levels_of c) ≡ 0
-      → rows_answer number count rows ≡ on_chart c (λ (x : Levels). answered (r x) (l x)) → Found count rows (l (levels_of c))
-  found r l zero e =
-      let rs = call_rows c r l number count rows e (call-number c r l number count rows e a.good ∙ zero) in
-      record { few = rs.few; same = rs.same }
-
-module _ (c : Chart) (byte number count : ℕ) (rows : List Class) where
-  pub bigs-found :
-      Accepts c (derive_bigs byte) → rows_answer number count rows ≡ segment_classes_call c byte
-      → Found count rows (segment_classes (eqb byte 1) (levels_of c))
-  unfolding segment_classes_call refusal
-  bigs-found a =
-      found c _ a number count rows (segment_classes_refusal byte) (segment_classes (eqb byte 1))
-      (never-10-segments (levels_of c) (ordered c _ a) byte ∙ good_byte _ byte a.accepted)
-
-  pub superiors-found :
-      Accepts c (derive_superiors byte) → rows_answer number count rows ≡ big_classes_call c byte
-      → Found count rows (big_classes (eqb byte 1) (levels_of c))
-  unfolding big_classes_call refusal
-  superiors-found a =
-      found c _ a number count rows (big_classes_refusal byte) (big_classes (eqb byte 1))
-      (never-10-bigs (levels_of c) (ordered c _ a) byte ∙ good_byte _ byte a.accepted)
+        (found : Rows Class 256) (triples : Rows Triple 256) → rows_answer (Ok found) ≡ big_classes_call c byte
+        → rows_in triples ≡ map as_triple (rows_in found) → Steps c (derive_superiors byte) (put (above superior) c triples.rows triples.count)
+    unfolding big_classes_call stepped refusal levels_of
+    superiors-does = does c _ superior a (big_classes_refusal byte) (big_classes (eqb byte 1)) zero-superiors refl (is-empty _ byte a.accepted)

@@ -12,8 +12,8 @@ use Rattle.rules.specs.Machine.{lengthen, lengthened, refusal, stepped, with_sup
 use Rattle.laws.proofs.Arrays.{Sized}
 use Rattle.laws.proofs.Answers.{Counted, counted}
 use Rattle.laws.proofs.Levels.{above, superior, put, put-fits, as_long}
-use Rattle.live.specs.Steps.{Accepts, Steps}
-use Rattle.live.proofs.Levelled.{before}
+use Rattle.live.specs.Steps.{Steps}
+use Rattle.live.proofs.Levelled.{Accepts, before}
 
 -- a record with another last
 abbrev ending : Triple → ℕ → Triple
@@ -54,6 +54,7 @@ module _ (c : Chart) (z : Sized c) (last : ℕ) (a : Accepts c (lengthen last)) 
       let s = last_set c.superiors k last d (omega (arith, some-superior, counts.superiors, z.superiors)) in
       let new = set c.superiors k (ending (get_or c.superiors k d) last) in
       record {
+        accepted = a.accepted;
         levels =
             ap (with_superiors (levels_of c))
             (ap (λ (i : ℕ). take i new) e ∙ s ∙ ap (λ (i : ℕ). lengthened (take i c.superiors) last) (sym e));

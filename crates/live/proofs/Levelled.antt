@@ -2,7 +2,7 @@
 use Prim.Native.Nat.{ℕ, zero, suc, ◌+◌, ◌-◌, ◌≤◌, ◌<◌}
 use mathlib.Core.Path.{◌≡◌, refl, sym, ap, ◌∙◌}
 use mathlib.Core.Bool.{false, true≢false}
-use mathlib.Core.List.{List, [], ◌∷◌, ◌++◌, get_last?, drop_last}
+use mathlib.Core.List.{List, [], ◌∷◌, ◌++◌, drop_last}
 use native.Mathlib.Omega.{arith}
 use lib.ListN.{length, take, set}
 use lib.Dec.{leb}
@@ -10,8 +10,8 @@ use borrow.Author.Tests.{leb-false}
 use Rattle.chart.specs.declared.Chart.{Chart}
 use Rattle.rules.specs.Lists.{is_empty}
 use Rattle.rules.specs.Records.{levels_of}
-use Rattle.rules.specs.Refusals.{refuse, stroke_refusal, triple_refusal, lengthen_refusal, withdraw_refusal}
-use Rattle.rules.specs.Machine.{Call, add_stroke, add_segment, add_big, add_superior, lengthen, withdraw, withdrawn, refusal, stepped}
+use Rattle.rules.specs.Refusals.{refuse, bad_chart, broken_levels, stroke_refusal, triple_refusal, withdraw_refusal}
+use Rattle.rules.specs.Machine.{Call, add_stroke, add_segment, add_big, add_superior, withdraw, withdrawn, refusal, stepped}
 use Rattle.laws.proofs.Tests.{refuse_no}
 use Rattle.laws.proofs.Arrays.{Sized}
 use Rattle.laws.proofs.Answers.{Counted, counted}
@@ -36,7 +36,16 @@ use Rattle.laws.proofs.Levels.{
   many-fits,
   as_long,
 }
-use Rattle.live.specs.Steps.{Accepts, Steps}
+use Rattle.live.specs.Steps.{Good, Steps}
+
+-- a good chart that accepts the call
+pub record Accepts (c : Chart) (k : Call) : Type 0 where
+  pub good : bad_chart c ≡ false
+  pub unbroken : broken_levels (levels_of c) ≡ false
+  pub accepted : refusal (levels_of c) k ≡ 0
+
+pub accepting : (c : Chart) (k : Call) → Good c → 0 ≡ refusal (levels_of c) k → Accepts c k
+accepting c k g e = record { good = g.good; unbroken = g.unbroken; accepted = sym e }
 
 -- the call that adds to a level, its numbers read on the chart, and 01's number of the level
 abbrev pub adding : (l : Level) → Of l → Call
@@ -113,11 +122,6 @@ module _ (c : Chart) where
       adding-refused (above big) t = rw (as_long c z n (above segment))
       adding-refused (above superior) t = rw (as_long c z n (above big))
 
-      pub lengthen-refused :
-          (last : ℕ) → refusal (levels_of c) (lengthen last) ≡ lengthen_refusal (get_last? (take c.superior_count c.superiors)) c.big_count last
-      unfolding refusal levels_of
-      lengthen-refused last = rw (as_long c z n (above big))
-
       has_room : (l : Level) (t : Of l) → adding_refusal l c t ≡ 0 → many l c < most l
       unfolding stroke_refusal triple_refusal
       has_room stroke s e = not_full 512 _ _ _ e (as_long c z n stroke)
@@ -134,6 +138,7 @@ module _ (c : Chart) where
       pub adding-does : Added l c t
       adding-does =
           record {
+            accepted = a.accepted;
             levels = grown-is c l t (omega (arith, size c z l, adding-room)) ∙ sym (adding-steps l t);
             fits = put-fits c l (set (places l c) (many l c) t) (many l c + 1) (counted c a.good) (omega (arith, adding-room));
           }
@@ -154,6 +159,7 @@ module _ (c : Chart) where
           let e : many l c ≡ suc k = before (many l c) some-record in
           let o = one_fewer (places l c) k (omega (arith, some-record, size c z l, many-fits c z n l)) in
           record {
+            accepted = a.accepted;
             levels =
                 put_is c l (places l c) k ∙ ap (with_level l (levels_of c)) (o ∙ ap (λ (m : ℕ). drop_last (take m (places l c))) (sym e))
                 ∙ sym (withdrawing l) ∙ ap (λ (x : ℕ). stepped (levels_of c) (withdraw x)) (sym i);

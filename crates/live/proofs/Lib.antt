@@ -1,5 +1,6 @@
-pub mod Chained
-pub mod Outcomes
 pub mod Levelled
 pub mod Ends
+pub mod Outcomes
+pub mod Asked
 pub mod Derives
+pub mod Chained

@@ -1,12 +1,16 @@
--- What a call has done, from what its code finds: a number, or new records with their zones. Assumes nothing.
+-- What a call does, from what its code finds: a number, or new records with their zones. Assumes nothing.
 use Prim.Native.Nat.{ℕ}
+use native.Mathlib.Omega.{arith}
 use mathlib.Core.Path.{◌≡◌, refl, sym, subst, ◌∙◌}
 use mathlib.Core.Bool.{Bool, true, false}
-use mathlib.Core.Logic.{◌⊎◌, inl, inr}
-use mathlib.Core.List.{List}
 use lib.Seq.{length-take-le}
+use Rattle.std.specs.Prelude.{Ok, Err}
 use Rattle.chart.specs.declared.Chart.{Chart}
 use Rattle.chart.specs.declared.Zone.{Zone}
+use Rattle.chart.specs.declared.Refusal.{Refusal}
+use Rattle.chart.specs.Numbers.{number_of}
+use Rattle.rows.specs.declared.Rows.{Rows}
+use Rattle.rows.specs.Rows.{rows_in}
 use Rattle.rules.specs.Answer.{rows_answer}
 use Rattle.rules.specs.Records.{levels_of}
 use Rattle.rules.specs.Zones.{overlap_zones}
@@ -14,55 +18,43 @@ use Rattle.rules.specs.Refusals.{refuse, LiveData, overfull, bad_levels, bad_cha
 use Rattle.rules.specs.Calls.{zones_call}
 use Rattle.rules.specs.Machine.{Call, refusal, count_up}
 use Rattle.rules.specs.Live.{view, live_refusal, after}
-use Rattle.laws.proofs.Tests.{or_i, or_l, or_r, refuse_no, refuse-on}
+use Rattle.laws.proofs.Tests.{or_i, or_l, or_r, refuse_no}
 use Rattle.laws.proofs.Arrays.{Sized}
 use Rattle.laws.proofs.Ordered.{InOrder, chart_fit, in_order, not-bad, not-broken}
 use Rattle.laws.proofs.Zones.{never-11}
 use Rattle.laws.proofs.Kept.{kept}
 use Rattle.laws.proofs.Machine.{not-21-ordered, not-21-good}
-use Rattle.laws.proofs.Answers.{counted, call-number, call_rows}
+use Rattle.laws.proofs.Answers.{positive, counted, call-ok, call-err}
 use Rattle.laws.proofs.Levels.{stroke, above, segment, big, superior, as_long}
 use Rattle.live.specs.declared.Live.{Live}
 use Rattle.live.specs.Did.{data_of, part, Did}
-use Rattle.live.specs.Steps.{Accepts, Steps, Renews}
+use Rattle.live.specs.Steps.{Good, Steps}
+use Rattle.live.proofs.Levelled.{Accepts}
 
 -- ---- numbers
 
--- a call's first number is 0: its chart is not refused
-module _ (b : LiveData) (first : ℕ) (e : first ≡ refuse (bad_live b) 21 0) where
-  passed : first ≡ 0 → bad_live b ≡ false
-  passed z = refuse_no (bad_live b) 20 0 (sym e ∙ z)
-
-  pub passes : first ≡ 0 → bad_chart b.chart ≡ false
-  passes z = not-21-good b (passed z)
-
-module _ (b : LiveData) (k : Call) where
-  -- n is the call's own number where its first number is 0, and else that: either way what the call answers
-  pub answer-is :
-      {Own First : Type 0} (first n : ℕ) → first ≡ refuse (bad_live b) 21 0
-      → (Own → (first ≡ 0) × (bad_chart b.chart ≡ false → n ≡ refusal (levels_of b.chart) k)) → (First → (first ≡ 0 → ⊥) × (n ≡ first))
-      → Own ⊎ First → n ≡ live_refusal b k
+-- 21, or none
+module _ (b : LiveData) where
+  pub first-number : (e : Refusal) (k : Call) → number_of e ≡ refuse (bad_live b) 21 0 → number_of e ≡ live_refusal b k
   unfolding live_refusal refuse
-  answer-is first n e f g (inl w) = rw (passed b first e (f w).0) ((f w).1 (passes b first e (f w).0))
-  answer-is first n e f g (inr w) = go (bad_live b) refl
+  first-number e k h = go (bad_live b) refl
     where
-      go : (t : Bool) → bad_live b ≡ t → n ≡ refuse t 21 (refusal (levels_of b.chart) k)
-      go true h = (g w).1 ∙ e ∙ rw h
-      go false h = absurd ((g w).0 (e ∙ rw h))
+      go : (t : Bool) → bad_live b ≡ t → number_of e ≡ refuse t 21 (refusal (levels_of b.chart) k)
+      go true f = h ∙ rw f
+      go false f =
+          let none : number_of e ≡ 0 = rw f at h in
+          absurd (omega (arith, none, positive e))
 
-  pub accepts : live_refusal b k ≡ 0 → Accepts b.chart k
-  unfolding live_refusal
-  accepts e =
-      let good = refuse_no (bad_live b) 20 (refusal (levels_of b.chart) k) e in
-      record {
-        good = not-21-good b good;
-        unbroken = not-broken (levels_of b.chart) (not-21-ordered b good);
-        accepted = refuse-on (bad_live b) 20 (refusal (levels_of b.chart) k) e;
-      }
+  module _ (h : 0 ≡ refuse (bad_live b) 21 0) where
+    passed : bad_live b ≡ false
+    passed = refuse_no (bad_live b) 20 0 (sym h)
 
-module _ (b : Live) (k : Call) where
-  pub did-not : (n : ℕ) → n ≡ live_refusal (data_of b) k → (n ≡ 0 → ⊥) → Did b k n b
-  did-not n e f = record { number = e; same = λ g. refl; stepped = λ g. absurd (f g); told = λ g. absurd (f g) }
+    pub passes : Good b.chart
+    passes = record { good = not-21-good b passed; unbroken = not-broken (levels_of b.chart) (not-21-ordered b passed) }
+
+    pub own-number : (n : ℕ) (k : Call) → n ≡ refusal (levels_of b.chart) k → n ≡ live_refusal b k
+    unfolding live_refusal refuse
+    own-number n k e = rw (passed, e)
 
 -- ---- steps
 
@@ -85,20 +77,33 @@ module _ (c : Chart) (k : Call) (a : Accepts c k) where
     no-11 : zones_refusal (levels_of r) ≡ 0
     no-11 = never-11 (levels_of r) (not-broken (levels_of r) kept-order) kept-order.bigs.fit
 
--- ---- the zones afresh
+-- ---- the zones afresh, of the records c that an accepted call makes
 
-module _ (b : Live) (c : Chart) (number count : ℕ) (rows : List Zone) (z : Sized c) (e : rows_answer number count rows ≡ zones_call c) where
-  pub renews : Renews b c (record { chart = c; zones = rows; zone_count = count; count = count_up b.count })
+module _ (b : Live) (k : Call) (c : Chart) (first : 0 ≡ refuse (bad_live (data_of b)) 21 0) (s : Steps b.chart k c) where
+  accepts : Accepts b.chart k
+  accepts =
+      let g = passes (data_of b) first in
+      record { good = g.good; unbroken = g.unbroken; accepted = s.accepted }
+
+  -- they are never refused
+  pub no-refusal : (e : Refusal) → rows_answer {N = 256} (Err e) ≡ zones_call c → ⊥
+  unfolding zones_call
+  no-refusal e h =
+      let n = call-err (rows_in {T = Zone} {N = 256}) c zones_refusal overlap_zones e h in
+      let z : number_of e ≡ 0 = rw (still-good b.chart k accepts c s, no-11 b.chart k accepts c s) at n in
+      omega (arith, z, positive e)
+
+  pub renews :
+      (z : Sized c) (found : Rows Zone 256) → rows_answer (Ok found) ≡ zones_call c
+      → Did b k 0 (record { chart = c; zones = found.rows; zone_count = found.count; count = count_up b.count })
   unfolding part view after zones_call
-  renews k zero s =
-      let good = still-good b.chart k (accepts (data_of b) k zero) c s in
-      let none = call-number c zones_refusal overlap_zones number count rows e good ∙ no-11 b.chart k (accepts (data_of b) k zero) c s in
-      let r = call_rows c zones_refusal overlap_zones number count rows e none in
-      let n = counted c good in
+  renews z found h =
+      let told = call-ok rows_in c zones_refusal overlap_zones found h in
+      let n = counted c told.good in
       record {
-        number = sym zero;
+        number = own-number (data_of b) first 0 k (sym s.accepted);
         same = λ f. absurd (f refl);
-        stepped = λ g. rw (r.same, s.levels);
+        stepped = λ g. rw (told.same, s.levels);
         told =
             λ g.
             record {
@@ -106,6 +111,6 @@ module _ (b : Live) (c : Chart) (number count : ℕ) (rows : List Zone) (z : Siz
               segments = as_long c z n (above segment);
               bigs = as_long c z n (above big);
               superiors = as_long c z n (above superior);
-              zones = length-take-le count rows r.few;
+              zones = length-take-le found.count found.rows (omega (arith, found.inside, found.whole));
             };
       }

@@ -2,14 +2,17 @@
 
 #![tactic(auto)]
 
-ghost use Rattle.std.specs.Prelude.{◌≡◌, map, ◌≤◌, take};
+ghost use Rattle.std.specs.Prelude.{◌≡◌, ◌≤◌, map, length};
+ghost use Rattle.chart.specs.Numbers.{number_in};
+ghost use Rattle.rows.specs.Rows.{rows_in};
 ghost use Rattle.rules.specs.Refusals.{refuse, bad_live};
 ghost use Rattle.rules.specs.Machine.{add_stroke, add_segment, add_big, add_superior, lengthen, withdraw};
-ghost use Rattle.rules.specs.Machine.{derive_bigs, derive_superiors, call_of, as_triple, count_up};
+ghost use Rattle.rules.specs.Machine.{derive_bigs, derive_superiors, call_of, as_triple};
 ghost use Rattle.live.specs.Did.{data_of, Nothing, Did};
-ghost use Rattle.live.specs.Steps.{Accepts, Steps, Renews};
+ghost use Rattle.live.specs.Steps.{Good, NextChart, NextLive};
 
-use chart::{Call, Chart, Class, NO_STROKE, NO_TRIPLE, NO_ZONE, Stroke, Triple, Zone};
+use chart::{Call, Chart, Class, NO_STROKE, NO_TRIPLE, NO_ZONE, Refusal, Stroke, Triple, Zone};
+use rows::Rows;
 
 // A chart that calls build. It keeps the first `zone_count` zones, and counts accepted calls; what lies behind a count is not part of it.
 #[derive(Clone, Copy)]
@@ -42,33 +45,78 @@ pub fn new() -> Live
     }
 }
 
-// ---- steps
+// ---- the chart that each call makes of one that 21 passes, or the call's own refusal
+
+// One record more: a stroke, a segment, a big, a superior.
+fn with_stroke(mut chart: Chart, s: Stroke) -> Result<Chart, Refusal>
+    requires { Good chart }
+    ensures { NextChart chart (add_stroke s) result }
+{
+    calls::stroke_refusal(chart.strokes(), s)?;
+    chart.strokes[chart.stroke_count as usize] = s;
+    chart.stroke_count += 1;
+    Ok(chart)
+}
+
+fn with_segment(mut chart: Chart, t: Triple) -> Result<Chart, Refusal>
+    requires { Good chart }
+    ensures { NextChart chart (add_segment t) result }
+{
+    calls::triple_refusal(chart.segments(), chart.strokes().len(), t)?;
+    chart.segments[chart.segment_count as usize] = t;
+    chart.segment_count += 1;
+    Ok(chart)
+}
+
+fn with_big(mut chart: Chart, t: Triple) -> Result<Chart, Refusal>
+    requires { Good chart }
+    ensures { NextChart chart (add_big t) result }
+{
+    calls::triple_refusal(chart.bigs(), chart.segments().len(), t)?;
+    chart.bigs[chart.big_count as usize] = t;
+    chart.big_count += 1;
+    Ok(chart)
+}
+
+fn with_superior(mut chart: Chart, t: Triple) -> Result<Chart, Refusal>
+    requires { Good chart }
+    ensures { NextChart chart (add_superior t) result }
+{
+    calls::triple_refusal(chart.superiors(), chart.bigs().len(), t)?;
+    chart.superiors[chart.superior_count as usize] = t;
+    chart.superior_count += 1;
+    Ok(chart)
+}
+
+// The last superior with another last.
+fn lengthened(mut chart: Chart, last: u16) -> Result<Chart, Refusal>
+    requires { Good chart }
+    ensures { NextChart chart (lengthen last) result }
+{
+    calls::lengthen_refusal(chart.superiors(), chart.bigs().len(), last)?;
+    chart.superiors[chart.superior_count as usize - 1].last = last;
+    Ok(chart)
+}
 
 // The last record of a level dropped.
-fn shortened(chart: Chart, level: u8) -> Chart
-    requires { Accepts chart (withdraw level) }
-    ensures { Steps chart (withdraw level) result }
+fn withdrawn(mut chart: Chart, level: u8) -> Result<Chart, Refusal>
+    requires { Good chart }
+    ensures { NextChart chart (withdraw level) result }
 {
-    let mut next = chart;
-    if level == 0 {
-        next.stroke_count -= 1;
-        return next;
+    calls::withdraw_refusal(&chart, level)?;
+    match level {
+        0 => chart.stroke_count -= 1,
+        1 => chart.segment_count -= 1,
+        2 => chart.big_count -= 1,
+        _ => chart.superior_count -= 1,
     }
-    if level == 1 {
-        next.segment_count -= 1;
-        return next;
-    }
-    if level == 2 {
-        next.big_count -= 1;
-        return next;
-    }
-    next.superior_count -= 1;
-    next
+    Ok(chart)
 }
 
 // A class as a record of the level that is derived.
-fn triple_of(class: Class) -> Triple
-    ensures { result ≡ as_triple class }
+#[tactic(auto, unfolding(rules::specs::Machine::as_triple))]
+fn triple_of(class: &Class) -> Triple
+    ensures { result ≡ as_triple class.now }
 {
     Triple {
         direction: class.direction,
@@ -77,27 +125,61 @@ fn triple_of(class: Class) -> Triple
     }
 }
 
-// The first n classes as records of a level.
-fn triples_of(classes: [Class; 256], n: u16) -> [Triple; 256]
-    requires { n ≤ 256 }
-    ensures { take n result ≡ map as_triple (take n classes) }
+// Classes as records of a level.
+fn triples_of(classes: &[Class]) -> Rows<Triple, 256>
+    requires { length classes.now ≤ 256 }
+    ensures { rows_in result ≡ map as_triple classes.now }
 {
-    let mut triples = [NO_TRIPLE; 256];
-    let count = n as usize;
-    let mut i = 0usize;
-    while i < count {
-        let class = classes[i];
-        triples[i] = triple_of(class);
-        i += 1;
+    let mut triples = Rows::new(NO_TRIPLE);
+    for class in classes {
+        triples.push(triple_of(class));
     }
     triples
 }
 
-// The count with one more, up to its stop.
-fn count_up(n: u32) -> u32
-    ensures { result ≡ count_up n }
+// The classes of the segments as bigs.
+fn with_derived_bigs(mut chart: Chart, byte: u8) -> Result<Chart, Refusal>
+    requires { Good chart }
+    ensures { NextChart chart (derive_bigs byte) result }
 {
-    if n < 4294967295 { n + 1 } else { 4294967295 }
+    calls::derive_refusal(chart.bigs(), byte)?;
+    let found = classes::classify_big_segments(&chart, byte)?;
+    let triples = triples_of(found.listed());
+    let rows = triples.rows;
+    chart.bigs = rows;
+    chart.big_count = triples.count;
+    Ok(chart)
+}
+
+// The classes of the bigs as superiors.
+fn with_derived_superiors(mut chart: Chart, byte: u8) -> Result<Chart, Refusal>
+    requires { Good chart }
+    ensures { NextChart chart (derive_superiors byte) result }
+{
+    calls::derive_refusal(chart.superiors(), byte)?;
+    let found = classes::classify_sup_segments(&chart, byte)?;
+    let triples = triples_of(found.listed());
+    let rows = triples.rows;
+    chart.superiors = rows;
+    chart.superior_count = triples.count;
+    Ok(chart)
+}
+
+// Of any call.
+fn next_chart(chart: Chart, call: Call) -> Result<Chart, Refusal>
+    requires { Good chart }
+    ensures { NextChart chart (call_of call) result }
+{
+    match call {
+        Call::Stroke(s) => with_stroke(chart, s),
+        Call::Segment(t) => with_segment(chart, t),
+        Call::Big(t) => with_big(chart, t),
+        Call::Superior(t) => with_superior(chart, t),
+        Call::Lengthen(last) => lengthened(chart, last),
+        Call::Withdraw(level) => withdrawn(chart, level),
+        Call::DeriveBigs(byte) => with_derived_bigs(chart, byte),
+        Call::DeriveSuperiors(byte) => with_derived_superiors(chart, byte),
+    }
 }
 
 // ---- the calls
@@ -110,217 +192,101 @@ pub struct Answered {
 }
 
 impl Live {
-    // The number of a call that comes before its own: 21, or 0 where it is not given.
-    fn first_number(self) -> u8
-        ensures { result ≡ refuse (bad_live (data_of self)) 21 0 }
+    // 21, which comes before every number of a call's own.
+    fn checked(&self) -> Result<(), Refusal>
+        ensures { number_in result ≡ refuse (bad_live (data_of self.now)) 21 0 }
     {
-        let chart = self.chart;
-        let zones = self.zones;
-        if kept::bad_live(chart, zones, self.zone_count) {
-            21
-        } else {
-            0
+        let Some(zones) = self.zones.get(..self.zone_count as usize) else {
+            return Err(Refusal::Chart);
+        };
+        if kept::bad_live(&self.chart, zones) {
+            return Err(Refusal::Chart);
         }
+        Ok(())
     }
 
-    // The live chart with new records: the zones afresh, one more in the count, and all else as it was.
-    fn renewed(mut self, chart: Chart) -> Live
-        ensures { Renews self chart result }
+    // What an accepted call leaves: the new records, their zones afresh, one more in the count. Behind 21 no zones are refused.
+    fn next(&self, call: Call) -> Result<Live, Refusal>
+        ensures { NextLive self.now (call_of call) result }
     {
-        let found = zones::detect_bigseg_zhongshus_by_overlap(chart);
-        let rows = found.rows;
-        self.chart = chart;
-        self.zones = rows;
-        self.zone_count = found.count;
-        self.count = count_up(self.count);
-        self
+        self.checked()?;
+        let chart = next_chart(self.chart, call)?;
+        let found = zones::detect_bigseg_zhongshus_by_overlap(&chart)?;
+        let zones = found.rows;
+        Ok(Live {
+            chart,
+            zones,
+            zone_count: found.count,
+            count: self.count.saturating_add(1),
+        })
+    }
+
+    // Any call. A refused one hands back the very chart.
+    pub fn call(mut self, call: Call) -> Answered
+        ensures { Did self (call_of call) result.number result.chart }
+    {
+        match self.next(call) {
+            Ok(chart) => Answered { chart, number: 0 },
+            Err(refusal) => Answered {
+                chart: self,
+                number: refusal.number(),
+            },
+        }
     }
 
     // Adds a stroke: 21, then 3, 2, 1, 4, 14.
     pub fn add_stroke(mut self, s: Stroke) -> Answered
         ensures { Did self (add_stroke s) result.number result.chart }
     {
-        let mut number = self.first_number();
-        let mut chart = self.chart;
-        if number == 0 {
-            number = calls::stroke_refusal(chart, s);
-        }
-        if number == 0 {
-            let n = chart.stroke_count as usize;
-            chart.strokes[n] = s;
-            chart.stroke_count += 1;
-            self = self.renewed(chart);
-        }
-        Answered {
-            chart: self,
-            number,
-        }
+        self.call(Call::Stroke(s))
     }
 
     // Adds a segment: 21, then 3, 2, 4, 5.
     pub fn add_segment(mut self, t: Triple) -> Answered
         ensures { Did self (add_segment t) result.number result.chart }
     {
-        let mut number = self.first_number();
-        let mut chart = self.chart;
-        if number == 0 {
-            let level = chart.segments;
-            number = calls::triple_refusal(level, chart.segment_count, chart.stroke_count, t);
-        }
-        if number == 0 {
-            let n = chart.segment_count as usize;
-            chart.segments[n] = t;
-            chart.segment_count += 1;
-            self = self.renewed(chart);
-        }
-        Answered {
-            chart: self,
-            number,
-        }
+        self.call(Call::Segment(t))
     }
 
     // Adds a big segment: 21, then 3, 2, 4, 5.
     pub fn add_big(mut self, t: Triple) -> Answered
         ensures { Did self (add_big t) result.number result.chart }
     {
-        let mut number = self.first_number();
-        let mut chart = self.chart;
-        if number == 0 {
-            let level = chart.bigs;
-            number = calls::triple_refusal(level, chart.big_count, chart.segment_count, t);
-        }
-        if number == 0 {
-            let n = chart.big_count as usize;
-            chart.bigs[n] = t;
-            chart.big_count += 1;
-            self = self.renewed(chart);
-        }
-        Answered {
-            chart: self,
-            number,
-        }
+        self.call(Call::Big(t))
     }
 
     // Adds a superior: 21, then 3, 2, 4, 5.
     pub fn add_superior(mut self, t: Triple) -> Answered
         ensures { Did self (add_superior t) result.number result.chart }
     {
-        let mut number = self.first_number();
-        let mut chart = self.chart;
-        if number == 0 {
-            let level = chart.superiors;
-            number = calls::triple_refusal(level, chart.superior_count, chart.big_count, t);
-        }
-        if number == 0 {
-            let n = chart.superior_count as usize;
-            chart.superiors[n] = t;
-            chart.superior_count += 1;
-            self = self.renewed(chart);
-        }
-        Answered {
-            chart: self,
-            number,
-        }
+        self.call(Call::Superior(t))
     }
 
     // Sets the last superior's last: 21, then 7, 4, 5.
     pub fn lengthen(mut self, last: u16) -> Answered
         ensures { Did self (lengthen last) result.number result.chart }
     {
-        let mut number = self.first_number();
-        let mut chart = self.chart;
-        if number == 0 {
-            let level = chart.superiors;
-            number = calls::lengthen_refusal(level, chart.superior_count, chart.big_count, last);
-        }
-        if number == 0 {
-            let n = (chart.superior_count - 1) as usize;
-            chart.superiors[n].last = last;
-            self = self.renewed(chart);
-        }
-        Answered {
-            chart: self,
-            number,
-        }
+        self.call(Call::Lengthen(last))
     }
 
     // Drops the last record of a level, 0 strokes to 3 superiors: 21, then 2, 7, 6.
     pub fn withdraw(mut self, level: u8) -> Answered
         ensures { Did self (withdraw level) result.number result.chart }
     {
-        let mut number = self.first_number();
-        let chart = self.chart;
-        if number == 0 {
-            number = calls::withdraw_refusal(chart, level);
-        }
-        if number == 0 {
-            self = self.renewed(shortened(chart, level));
-        }
-        Answered {
-            chart: self,
-            number,
-        }
+        self.call(Call::Withdraw(level))
     }
 
     // Appends the classes of the segments to the bigs, while there is none: 21, then 2, 6.
     pub fn derive_bigs(mut self, byte: u8) -> Answered
         ensures { Did self (derive_bigs byte) result.number result.chart }
     {
-        let mut number = self.first_number();
-        let mut chart = self.chart;
-        if number == 0 {
-            number = calls::derive_refusal(chart.big_count, byte);
-        }
-        if number == 0 {
-            let found = classes::classify_big_segments(chart, byte);
-            let rows = found.rows;
-            let triples = triples_of(rows, found.count);
-            chart.bigs = triples;
-            chart.big_count = found.count;
-            self = self.renewed(chart);
-        }
-        Answered {
-            chart: self,
-            number,
-        }
+        self.call(Call::DeriveBigs(byte))
     }
 
     // Appends the classes of the bigs to the superiors, while there is none: 21, then 2, 6.
     pub fn derive_superiors(mut self, byte: u8) -> Answered
         ensures { Did self (derive_superiors byte) result.number result.chart }
     {
-        let mut number = self.first_number();
-        let mut chart = self.chart;
-        if number == 0 {
-            number = calls::derive_refusal(chart.superior_count, byte);
-        }
-        if number == 0 {
-            let found = classes::classify_sup_segments(chart, byte);
-            let rows = found.rows;
-            let triples = triples_of(rows, found.count);
-            chart.superiors = triples;
-            chart.superior_count = found.count;
-            self = self.renewed(chart);
-        }
-        Answered {
-            chart: self,
-            number,
-        }
-    }
-
-    // Any of these calls.
-    pub fn call(mut self, call: Call) -> Answered
-        ensures { Did self (call_of call) result.number result.chart }
-    {
-        match call {
-            Call::Stroke(s) => self.add_stroke(s),
-            Call::Segment(t) => self.add_segment(t),
-            Call::Big(t) => self.add_big(t),
-            Call::Superior(t) => self.add_superior(t),
-            Call::Lengthen(last) => self.lengthen(last),
-            Call::Withdraw(level) => self.withdraw(level),
-            Call::DeriveBigs(byte) => self.derive_bigs(byte),
-            Call::DeriveSuperiors(byte) => self.derive_superiors(byte),
-        }
+        self.call(Call::DeriveSuperiors(byte))
     }
 }

@@ -2,93 +2,78 @@
 
 #![tactic(auto)]
 
-ghost use Rattle.std.specs.Prelude.{◌≡◌, false, ◌≤◌, length, take};
+ghost use Rattle.std.specs.Prelude.{◌≡◌, false, map};
+ghost use Rattle.rows.specs.Rows.{rows_in};
 ghost use Rattle.rules.specs.Answer.{answered, rows_answer};
 ghost use Rattle.rules.specs.Records.{levels_of};
 ghost use Rattle.rules.specs.Ranges.{segment_range};
 ghost use Rattle.rules.specs.Zones.{lower_zones_of};
 ghost use Rattle.rules.specs.Refusals.{bad_chart, lower_refusal};
 ghost use Rattle.rules.specs.Calls.{lower_call};
-ghost use Rattle.tables.specs.Rows.{Wide};
-ghost use Rattle.tables.specs.Tables.{Members, Owners};
-ghost use Rattle.lower_zones.specs.Read.{segment_from};
+ghost use Rattle.lower_zones.specs.Segments.{segment_of, segments_of};
 
-use chart::{Chart, Range, Stroke, Triple};
-use zones::ZoneRows;
+use chart::{Chart, NO_ZONE, Range, Refusal, Triple, Zone};
+use rows::Rows;
+use tables::{Big, NO_BIG};
 
-// The range of the segment t in a chart with this number of strokes: s is its first and e its last stroke, each where it is there.
-fn segment_range(t: Triple, s: Stroke, e: Stroke, strokes: u16) -> Range
-    ensures { result ≡ segment_from strokes t s e }
+// The range of a segment, from the start of its first stroke to the end of its last, where both are there.
+#[tactic(auto, unfolding(rules::specs::Ranges::segment_range, rules::specs::Ranges::spanned, rules::specs::Records::levels_of))]
+fn segment_range(chart: &Chart, t: Triple) -> Range
+    ensures { result ≡ segment_range (levels_of chart.now) t }
 {
     if t.last < t.first {
         return Range::Missing;
     }
-    if strokes <= t.last {
-        return Range::Missing;
-    }
-    levels::span_of(s, e)
-}
-
-// The table of a chart's segments.
-fn segments_of(chart: Chart, bars: &mut [[u16; 6]; 256], prices: &mut [[f64; 3]; 256])
-    requires { (chart.segment_count ≤ 256) × (chart.stroke_count ≤ 512) × Wide bars.old prices.old }
-    ensures { Members (segment_range (levels_of chart)) (levels_of chart).segments chart.segment_count bars.new prices.new }
-{
-    let n = chart.segment_count as usize;
-    let mut k = 0usize;
-    while k < n {
-        let t = chart.segments[k];
-        let p = levels::within(t.first, 512);
-        let q = levels::within(t.last, 512);
-        let s = chart.strokes[p];
-        let e = chart.strokes[q];
-        let range = segment_range(t, s, e, chart.stroke_count);
-        tables::put_big(k, t.direction, range, 0, e, bars, prices);
-        k += 1;
+    let first = levels::record_at(chart.strokes(), t.first);
+    let last = levels::record_at(chart.strokes(), t.last);
+    match (first, last) {
+        (Some(s), Some(e)) => levels::span_of(s, e),
+        _ => Range::Missing,
     }
 }
 
-// The table of the first n bigs as owners.
-fn owners_of(bigs: [Triple; 256], n: usize, owners: &mut [[u16; 5]; 256])
-    requires { (n ≤ 256) × (length owners.old ≡ 256) }
-    ensures { Owners (take n bigs) n owners.new }
+// A segment as a record under the rule.
+fn segment_of(chart: &Chart, t: Triple) -> Big
+    ensures { result ≡ segment_of (levels_of chart.now) t }
 {
-    let mut k = 0usize;
-    while k < n {
-        let b = bigs[k];
-        owners[k] = [b.direction as u16, b.first, b.last, 0, 0];
-        k += 1;
+    Big {
+        direction: t.direction,
+        range: segment_range(chart, t),
+        end: None,
     }
+}
+
+// The segments of a chart that is not refused with 21.
+#[tactic(auto, unfolding(rules::specs::Records::levels_of))]
+fn segments_of(chart: &Chart) -> Rows<Big, 256>
+    requires { bad_chart chart.now ≡ false }
+    ensures { rows_in result ≡ segments_of (levels_of chart.now) }
+{
+    let mut segments = Rows::new(NO_BIG);
+    for t in chart.segments() {
+        segments.push(segment_of(chart, *t));
+    }
+    segments
 }
 
 // The lower zones of a chart that is not refused with 21: 11 where there are more than 256.
-pub fn lower_rows(chart: Chart) -> ZoneRows
-    requires { bad_chart chart ≡ false }
-    ensures { rows_answer result.number result.count result.rows ≡ answered (lower_refusal (levels_of chart)) (lower_zones_of (levels_of chart)) }
+pub fn lower_rows(chart: &Chart) -> Result<Rows<Zone, 256>, Refusal>
+    requires { bad_chart chart.now ≡ false }
+    ensures { rows_answer result ≡ answered (lower_refusal (levels_of chart.now)) (lower_zones_of (levels_of chart.now)) }
 {
-    let mut bars = [[0u16; 6]; 256];
-    let mut prices = [[0.0; 3]; 256];
-    let mut owners = [[0u16; 5]; 256];
-    let mut zb = [[0u16; 8]; 256];
-    let mut zp = [[0.0; 4]; 256];
-    let bigs = chart.bigs;
-    let n = chart.big_count as usize;
-    let m = chart.segment_count as usize;
-    segments_of(chart, &mut bars, &mut prices);
-    owners_of(bigs, n, &mut owners);
-    let count = zones::overlap(&owners, n, &bars, &prices, m, &mut zb, &mut zp);
-    if 256 < count {
-        return zones::refusal(11);
-    }
-    zones::rows_of(count, &zb, &zp)
+    let segments = segments_of(chart);
+    let mut zones = Rows::new(NO_ZONE);
+    zones::overlap(chart.bigs(), segments.listed(), &mut zones)?;
+    Ok(zones)
 }
 
 // The lower zones of a chart: 21, then 11 where there are more than 256.
-pub fn detect_segment_zhongshus_by_overlap(chart: Chart) -> ZoneRows
-    ensures { rows_answer result.number result.count result.rows ≡ lower_call chart }
+#[tactic(auto, unfolding(rules::specs::Calls::lower_call, rules::specs::Calls::on_chart))]
+pub fn detect_segment_zhongshus_by_overlap(chart: &Chart) -> Result<Rows<Zone, 256>, Refusal>
+    ensures { rows_answer result ≡ lower_call chart.now }
 {
     if levels::bad_chart(chart) {
-        return zones::refusal(21);
+        return Err(Refusal::Chart);
     }
     lower_rows(chart)
 }

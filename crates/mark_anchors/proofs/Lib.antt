@@ -1,3 +1,4 @@
-pub mod Stops
-pub mod Numbers
-pub mod Rows
+pub mod Hits
+pub mod Limits
+pub mod Sides
+pub mod Ruled

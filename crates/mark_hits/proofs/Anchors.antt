@@ -1,247 +1,179 @@
--- The anchors: their side, a place behind which their ends lie, and their rows. Assumes nothing.
-use Prim.Native.Nat.{ℕ, ◌+◌, ◌<◌, ◌≤◌, min}
-use native.Mathlib.Omega.{arith}
-use native.Mathlib.Numerals.{add-one}
-use mathlib.Core.Path.{◌≡◌, refl, sym, ap, subst, ◌∙◌}
-use mathlib.Core.Bool.{Bool, true, false, not, beq, true≢false}
-use mathlib.Core.List.{List, [], ◌∷◌, ◌++◌, map, append-nil}
-use mathlib.Core.Option.{Option, none, some}
-use lib.ListN.{length, take, drop, get_or, get_elem?, set}
-use lib.Seq.{take-suc, get_or_at, get_or-set_same, get_or-set_other}
-use lib.Dec.{eqb, ltb}
-use lib.Ieee.{Float, nan}
-use borrow.Author.Tests.{eq-eqb, ne_eqb, eqb-true, eqb-false, lt-ltb, ltb-true}
-use Rattle.chart.specs.declared.Stroke.{Stroke}
-use Rattle.chart.specs.declared.Triple.{Triple}
-use Rattle.chart.specs.declared.EndPoint.TheVariants as point
-use Rattle.rules.specs.Lists.{keep, collect}
-use Rattle.rules.specs.Records.{is_up, Levels}
-use Rattle.rules.specs.Ranges.{last_stroke}
-use Rattle.rules.specs.Marks.{anchors_of, anchor_side, anchor_bars, ends_after, anchor_price}
-use Rattle.laws.proofs.Tests.{length-snoc, none-some}
-use Rattle.laws.proofs.Lists.{at_left, at_lt, lt_at, at-getD}
-use Rattle.levels.proofs.Read.{no_triple, no_stroke, clipped}
-use Rattle.tables.specs.declared.Counts.{Counts}
-use Rattle.tables.specs.Rows.{Wide}
-use Rattle.tables.specs.Tables.{Bigs, Sups, point_in}
-use Rattle.tables.proofs.Bigs.{point-is}
-use Rattle.tables.proofs.Sups.{triple-is}
-use Rattle.mark_hits.specs.declared.End.{End}
-use Rattle.mark_hits.specs.declared.End.TheVariants.{At, Over}
-use Rattle.mark_hits.specs.declared.Price.TheVariants as price
-use Rattle.mark_hits.specs.declared.Side.{Side}
+-- The ends of bigs: the place of the first that ends behind a bar, and what follows it. Assumes nothing.
+use Rattle.std.proofs.Common.{ℕ, suc, zero, ◌+◌, ◌-◌, ◌<◌, ◌≤◌, ◌≡◌, refl, ap, ◌∙◌, arith, Bool, true, false, cond}
+use Rattle.std.proofs.Common.{List, [], ◌∷◌, ◌++◌, map, length, take, drop, get_or, Some, None, Float, add-one, length-drop}
+use Rattle.std.proofs.Math.Seq.{take-suc}
+use Rattle.std.proofs.lemmas.List.{take_all, append-nil, length-map, length-take}
+use borrow.Author.Tests.{le-ltb, ltb-false}
+use Rattle.std.specs.Bool.{beq}
+use Rattle.std.specs.declared.option as code
+use Rattle.std.proofs.Math.Option.{Option, none, some}
+use Rattle.chart.specs.declared.EndPoint.{EndPoint}
+use Rattle.rules.specs.Records.{is_up}
+use Rattle.rows.specs.declared.Rows.{Rows}
+use Rattle.rows.specs.Rows.{rows_in}
+use Rattle.rules.specs.Lists.{collect, before}
+use Rattle.laws.proofs.Lists.{collect-length, map-append}
+use Rattle.tables.specs.declared.Big.{Big}
 use Rattle.mark_hits.specs.declared.Anchor.{Anchor}
-use Rattle.mark_hits.specs.Anchors.{ends_in, EndsBy, NextEnd, NoneBefore, FirstBehind, end_bars_in, Anchoring, price_of, price_in, anchor_in}
-use Rattle.mark_hits.specs.Anchors.{AnchorAt, Anchors, PutsAnchor, AnchorsOf}
-use Rattle.mark_hits.proofs.Ends.{ends-over, ends_nowhere, ends-soon, no_point, point_stroke}
+use Rattle.mark_hits.specs.declared.Side.{Side}
+use Rattle.mark_hits.specs.Anchors.{is_behind, point_behind, end_behind, ends_behind, place_behind, first_price, anchor_at, point_in, ends_in, anchors_in}
 
--- ---- a place before which no big ends behind a bar
+-- ---- the first element that passes a test
 
-pub none_first : (c : Levels) (bar : ℕ) → NoneBefore c bar 0
-unfolding ends_after
-none_first c bar up = refl
+module _ {A : Type 0} (p : A → Bool) where
+  pub before_le : (xs : List A) → length (before p xs) ≤ length xs
+  before_le [] = omega arith
+  before_le (x ∷ xs) = go (p x) (before_le xs)
+    where
+      go : (t : Bool) → length (before p xs) ≤ length xs → length {A = A} (elim t [ true ↦ [] | false ↦ x ∷ before p xs ]) ≤ suc (length xs)
+      go true h = omega arith
+      go false h = omega arith
 
--- what passes the second of two tests passes the first
-keep_twice : {A : Type 0} (p q : A → Bool) → ((x : A) → q x ≡ true → p x ≡ true) → (xs : List A) → keep q (keep p xs) ≡ keep q xs
-keep_twice p q w [] = refl
-keep_twice p q w (x ∷ xs) = go (p x) refl (q x) refl (keep_twice p q w xs)
-  where
-    go : (t : Bool) → p x ≡ t → (u : Bool) → q x ≡ u → keep q (keep p xs) ≡ keep q xs → keep q (keep p (x ∷ xs)) ≡ keep q (x ∷ xs)
-    go true e u f h = rw (keep, e, h)
-    go false e true f h = absurd (true≢false (sym (w x f) ∙ e))
-    go false e false f h = rw (keep, e, f, h)
-
--- it is one for every later bar
-pub none-later : (c : Levels) (last place after : ℕ) → last ≤ after → NoneBefore c last place → NoneBefore c after place
-none-later c last place after h before up =
-    none_first c after up ∙ sym (again c.bigs) ∙ ap (keep (later after)) (sym (none_first c last up) ∙ before up) ∙ again (drop place c.bigs)
-  where
-    later : ℕ → Stroke → Bool
-    later bar s = ltb bar s.end_bar
-
-    again : (bs : List Triple) → keep (later after) (ends_in c up last bs) ≡ ends_in c up after bs
-    again bs =
-        keep_twice (later last) (later after) (λ s e. lt-ltb last s.end_bar (omega (arith, h, ltb-true after s.end_bar e)))
-        (collect (last_stroke c) (keep (λ (b : Triple). beq (is_up b.direction) up) bs))
-
--- and the next place is one too, where the big there ends nowhere or no later
-module _
-    (m : ℕ) (bars : List (List ℕ)) (prices : List (List Float)) (last place after k : ℕ) (so_far : FirstBehind m bars prices last place after k)
-    (more : k < m)
-  where
-    pub behind-nowhere : point_in (get_or bars k []) (get_or prices k []) ≡ point.Nowhere → FirstBehind m bars prices last place after (k + 1)
-    behind-nowhere e c t h up = ends_nowhere m bars prices up after k c t (ends_after c up after) (so_far c t h up) more e
-
-    pub behind-soon :
-        (bar : ℕ) (x : Float) → point_in (get_or bars k []) (get_or prices k []) ≡ point.At bar x → ltb after bar ≡ false
-        → FirstBehind m bars prices last place after (k + 1)
-    behind-soon bar x e l c t h up = ends-soon m bars prices up after k c t (ends_after c up after) (so_far c t h up) more bar x e l
-
--- ---- the end bars that a hit behind an anchor may have
-
--- of the bigs from place k on
-module _ (c : Levels) (buy : Bool) (after k : ℕ) where
-  pub bars-none : (m : ℕ) (bars : List (List ℕ)) (prices : List (List Float)) → Bigs c m bars prices → m ≤ k → end_bars_in c buy after (drop k c.bigs) ≡ []
-  bars-none m bars prices t h = ap (map (λ (s : Stroke). s.end_bar)) (ends-over m bars prices (not buy) after k c t _ refl h)
-
-  module _ (end : End) (ends : EndsBy c (not buy) after k end) where
-    pub bars-over : end ≡ Over → end_bars_in c buy after (drop k c.bigs) ≡ []
-    bars-over e = ap (map (λ (s : Stroke). s.end_bar)) (subst (EndsBy c (not buy) after k) e ends)
-
-    pub bars-next :
-        (next bar : ℕ) (x : Float) → end ≡ At next bar x → end_bars_in c buy after (drop k c.bigs) ≡ bar ∷ end_bars_in c buy after (drop next c.bigs)
-    bars-next next bar x e =
-        let there = subst (EndsBy c (not buy) after k) e ends in
-        rw (← there.1) (ap (map (λ (s : Stroke). s.end_bar)) there.3)
-
--- behind an anchor, by its row
-pub bars_behind :
-    (c : Levels) (buy : Bool) (a : Stroke) (x : Anchor) → AnchorAt c buy a x → anchor_bars c buy a ≡ end_bars_in c buy x.bar (drop x.from c.bigs)
-unfolding anchor_bars
-bars_behind c buy a x is = rw (is.behind (not buy), is.bar)
-
--- ---- the side
-
-no_elements : {A : Type 0} (l : List A) → length l ≡ 0 → l ≡ []
-no_elements [] e = refl
-no_elements (x ∷ l) e = absurd (omega arith)
-
-up_is : (up : Bool) → beq up true ≡ up
-up_is true = refl
-up_is false = refl
-
-module _ (n : Counts) (sups : List (List ℕ)) (c : Levels) (long : length c.bigs ≡ n.bigs) (t : Sups c n.superiors sups) where
-  pub side-none : n.superiors ≡ 0 → Anchoring c (record { bigs = n.bigs; anchors = 0; buy = true })
-  unfolding anchors_of anchor_side
-  side-none e =
-      let gone = no_elements c.superiors (t.count ∙ e) in
-      record { anchors = rw gone; buy = rw gone }
-
-  pub side-some :
-      (n.superiors ≡ 0 → ⊥) → (first k : ℕ) (buy : Bool) → first ≡ get_or (get_or sups 0 []) 1 0 → k ≡ min first n.bigs
-      → buy ≡ beq (is_up (get_or (get_or sups 0 []) 0 0)) true → Anchoring c (record { bigs = n.bigs; anchors = k; buy = buy })
-  unfolding anchors_of anchor_side
-  side-some e first k buy f g h =
-      let s = triple-is c n.superiors sups t 0 (omega arith) in
-      go c.superiors refl (f ∙ ap (λ (u : Triple). u.first) s) (h ∙ ap (λ (u : Triple). beq (is_up u.direction) true) s)
+  pub before_here : (xs : List A) (k : ℕ) (d : A) → k ≤ length (before p xs) → k < length xs → p (get_or xs k d) ≡ true → k ≡ length (before p xs)
+  before_here [] k d h l e = absurd (omega arith)
+  before_here (x ∷ xs) zero d h l e = rw (before, e)
+  before_here (x ∷ xs) (suc k) d h l e = go (p x) refl (before_here xs k d)
     where
       go :
-          (ss : List Triple) → c.superiors ≡ ss → first ≡ (get_or ss 0 no_triple).first
-          → buy ≡ beq (is_up (get_or ss 0 no_triple).direction) true → Anchoring c (record { bigs = n.bigs; anchors = k; buy = buy })
-      go [] is x y = absurd (omega (arith, t.count, ap (λ (l : List Triple). length l) is))
-      go (s ∷ ss) is x y =
-          record { anchors = rw (g, clipped first n.bigs c.bigs long, x, is); buy = rw is (y ∙ up_is (is_up s.direction)) }
+          (t : Bool) → p x ≡ t → (k ≤ length (before p xs) → k < length xs → p (get_or xs k d) ≡ true → k ≡ length (before p xs))
+          → suc k ≡ length (before p (x ∷ xs))
+      go true f r = absurd (omega (arith, rw (before, f) at h))
+      go false f r = rw (before, f) (ap suc (r (omega (arith, rw (before, f) at h)) (omega arith) e))
 
--- ---- a row
+  pub before_more : (xs : List A) (k : ℕ) (d : A) → k ≤ length (before p xs) → k < length xs → p (get_or xs k d) ≡ false → k + 1 ≤ length (before p xs)
+  before_more [] k d h l e = absurd (omega arith)
+  before_more (x ∷ xs) zero d h l e = rw (before, e) (omega arith)
+  before_more (x ∷ xs) (suc k) d h l e = go (p x) refl (before_more xs k d)
+    where
+      go :
+          (t : Bool) → p x ≡ t → (k ≤ length (before p xs) → k < length xs → p (get_or xs k d) ≡ false → k + 1 ≤ length (before p xs))
+          → suc k + 1 ≤ length (before p (x ∷ xs))
+      go true f r = absurd (omega (arith, rw (before, f) at h))
+      go false f r = rw (before, f) (let q = r (omega (arith, rw (before, f) at h)) (omega arith) e in omega arith)
 
-module _ (row : List ℕ) (c : Float) (from : ℕ) (is : from ≡ get_or row 1 0) where
-  pub row-nowhere : get_or row 2 0 ≡ 0 → record { bar = get_or row 0 0; from = from; price = price.Nowhere } ≡ anchor_in row c
-  row-nowhere e = rw (is, eq-eqb _ _ e)
+  -- where the first k elements don't pass
+  pub before_split : (xs : List A) (k : ℕ) → k ≤ length (before p xs) → length (before p xs) ≡ k + length (before p (drop k xs))
+  before_split xs zero h = omega arith
+  before_split [] (suc k) h = absurd (omega arith)
+  before_split (x ∷ xs) (suc k) h = go (p x) refl (before_split xs k)
+    where
+      go :
+          (t : Bool) → p x ≡ t → (k ≤ length (before p xs) → length (before p xs) ≡ k + length (before p (drop k xs)))
+          → length (before p (x ∷ xs)) ≡ suc k + length (before p (drop k xs))
+      go true f r = absurd (omega (arith, rw (before, f) at h))
+      go false f r = rw (before, f) (omega (arith, r (omega (arith, rw (before, f) at h))))
 
-  pub row-priced : (get_or row 2 0 ≡ 0 → ⊥) → record { bar = get_or row 0 0; from = from; price = price.At c } ≡ anchor_in row c
-  row-priced e = rw (is, ne_eqb _ _ e)
+-- ---- bigs that end behind a bar
 
--- one element more of a list whose elements stand in two columns
-pub column_more :
-    {A X Y : Type 0} (P : ℕ → A → X → Y → Type 0) (n : ℕ) (l : List A) (xs : List X) (ys : List Y) (a : A) (x u : X) (y v : Y)
-    → length l ≡ n → n < length xs → n < length ys → ((i : ℕ) (b : A) → get_elem? l i ≡ some b → P i b (get_or xs i u) (get_or ys i v)) → P n a x y
-    → (i : ℕ) (b : A) → get_elem? (l ++ a ∷ []) i ≡ some b → P i b (get_or (set xs n x) i u) (get_or (set ys n y) i v)
-column_more P n l xs ys a x u y v many p q are here i b e = go (eqb i n) refl
+not_later : (last bar : ℕ) (o : code.Option.Option EndPoint) → last ≤ bar → is_behind last o ≡ false → is_behind bar o ≡ false
+not_later last bar None h e = refl
+not_later last bar (Some s) h e = le-ltb bar s.bar (omega (arith, ltb-false last s.bar e))
+
+-- a later bar has a later place
+pub place_later : (last bar : ℕ) (bs : List Big) → last ≤ bar → place_behind last bs ≤ place_behind bar bs
+place_later last bar [] h = omega arith
+place_later last bar (b ∷ bs) h = go (is_behind last b.end) refl (place_later last bar bs h)
   where
-    go : (t : Bool) → eqb i n ≡ t → P i b (get_or (set xs n x) i u) (get_or (set ys n y) i v)
-    go true f =
-        let same = eqb-true i n f in
-        let own : a ≡ b = sym (get_or_at l a [] a n many) ∙ (rw same at (at-getD (l ++ a ∷ []) i a b e)) in
-        rw (same, get_or-set_same xs n x u p, get_or-set_same ys n y v q, ← own) here
-    go false f =
-        let other = eqb-false i n f in
-        let there = lt_at l i (omega (arith, other, many, at_lt (l ++ a ∷ []) i b e, length-snoc l a)) in
-        rw (get_or-set_other xs n i x u other, get_or-set_other ys n i y v other) (are i b (there.1 ∙ sym (at_left l (a ∷ []) i there.0 there.1) ∙ e))
+    go :
+        (t : Bool) → is_behind last b.end ≡ t → place_behind last bs ≤ place_behind bar bs
+        → place_behind last (b ∷ bs) ≤ place_behind bar (b ∷ bs)
+    go true e r = rw (before, e) (omega arith)
+    go false e r = rw (before, e, not_later last bar b.end h e) (omega arith)
 
--- one anchor more
+module _ (bar : ℕ) where
+  pub place_le : (bs : List Big) → place_behind bar bs ≤ length bs
+  place_le bs = before_le (λ (b : Big). is_behind bar b.end) bs
 
-abbrev pub end_price_of : End → Option Float
-end_price_of Over = none
-end_price_of (At next bar p) = some p
+  no_end : (up : Bool) (b : Big) → is_behind bar b.end ≡ false → end_behind up bar b ≡ none
+  no_end up b e = go (beq (is_up b.direction) up) b.end e
+    where
+      go : (t : Bool) (o : code.Option.Option EndPoint) → is_behind bar o ≡ false → cond t (point_behind bar o) none ≡ none
+      go false o f = refl
+      go true None f = refl
+      go true (Some s) f = rw f
 
-price-at :
-    (c : Levels) (buy : Bool) (a : Stroke) (from : ℕ) (end : End) → NoneBefore c a.end_bar from → EndsBy c buy a.end_bar from end
-    → anchor_price c buy a ≡ end_price_of end
-unfolding anchor_price
-price-at c buy a from Over behind over = rw (anchor_price, behind buy ∙ over)
-price-at c buy a from (At next bar p) behind there = rw (anchor_price, behind buy ∙ there.3, there.2)
+  -- the bigs before that place don't end behind the bar
+  pub ends_from : (up : Bool) (bs : List Big) → ends_behind up bar (drop (place_behind bar bs) bs) ≡ ends_behind up bar bs
+  ends_from up [] = refl
+  ends_from up (b ∷ bs) = go (is_behind bar b.end) refl (ends_from up bs)
+    where
+      go :
+          (t : Bool) → is_behind bar b.end ≡ t → ends_behind up bar (drop (place_behind bar bs) bs) ≡ ends_behind up bar bs
+          → ends_behind up bar (drop (place_behind bar (b ∷ bs)) (b ∷ bs)) ≡ ends_behind up bar (b ∷ bs)
+      go true e r = rw (before, e)
+      go false e r = rw (before, e, collect, no_end up b e) r
 
-pub puts_anchor :
-    (n bar from : ℕ) (end : End) (rows : List (List ℕ)) (cs : List Float) → n < 256 → Wide rows cs → (there : ℕ) (x : Float)
-    → end_price_of end ≡ price_of (price_in (bar ∷ from ∷ there ∷ []) x) → PutsAnchor n bar from end rows cs (set rows n (bar ∷ from ∷ there ∷ [])) (set cs n x)
-puts_anchor n bar from end rows cs small w there x priced c buy l a at behind ends so_far =
-    let behind-it = subst (λ (b : ℕ). NoneBefore c b from) (sym at) behind in
-    let ends_it = subst (λ (b : ℕ). EndsBy c buy b from end) (sym at) ends in
-    record {
-      count = length-snoc l a ∙ omega (arith, so_far.count);
-      are =
-          column_more (λ (i : ℕ) (b : Stroke) (row : List ℕ) (p : Float). AnchorAt c buy b (anchor_in row p)) n l rows cs a (bar ∷ from ∷ there ∷ []) [] x nan
-          so_far.count (omega (arith, w.0)) (omega (arith, w.1)) so_far.are
-          (record { bar = at; behind = behind-it; price = price-at c buy a from end behind-it ends_it ∙ priced });
-    }
+  -- big i of those from a place on, none of which before it ends behind the bar
+  module _ (bs : List Big) (place i : ℕ) (passed : place ≤ place_behind bar bs) (so_far : place + i ≤ place_behind bar bs) where
+    abbrev rest : List Big
+    rest = take (length bs - place) (drop place bs)
 
--- ---- all rows
+    all_rest : rest ≡ drop place bs
+    all_rest = take_all (length bs - place) (drop place bs) (omega (arith, length-drop place bs))
 
-collect_append : {A B : Type 0} (f : A → Option B) (xs ys : List A) → collect f (xs ++ ys) ≡ collect f xs ++ collect f ys
-collect_append f [] ys = refl
-collect_append {A} {B} f (x ∷ xs) ys = go (f x) refl (collect_append f xs ys)
+    split : place_behind bar bs ≡ place + place_behind bar rest
+    split = rw all_rest (before_split (λ (b : Big). is_behind bar b.end) bs place passed)
+
+    pub first_here : (d : Big) → i < length rest → is_behind bar (get_or rest i d).end ≡ true → (place + i ≤ length bs) × (place + i ≡ place_behind bar bs)
+    first_here d h e =
+        let same = before_here (λ (b : Big). is_behind bar b.end) rest i d (omega (arith, split)) h e in
+        let whole : place + i ≡ place_behind bar bs = omega (arith, split) in
+        (omega (arith, place_le bs), whole)
+
+    pub first_later : (d : Big) → i < length rest → is_behind bar (get_or rest i d).end ≡ false → place + (i + 1) ≤ place_behind bar bs
+    first_later d h e =
+        let more = before_more (λ (b : Big). is_behind bar b.end) rest i d (omega (arith, split)) h e in
+        omega (arith, split)
+
+    pub first_none : length rest ≤ i → length bs ≡ place_behind bar bs
+    first_none h = omega (arith, place_le bs, ap length all_rest, length-drop place bs)
+
+-- ---- anchors
+
+module _ {A B : Type 0} (f : A → Option B) where
+  collect_append : (xs ys : List A) → collect f (xs ++ ys) ≡ collect f xs ++ collect f ys
+  collect_append [] ys = refl
+  collect_append (x ∷ xs) ys = go (f x) refl (collect_append xs ys)
+    where
+      go : (o : Option B) → f x ≡ o → collect f (xs ++ ys) ≡ collect f xs ++ collect f ys → collect f (x ∷ xs ++ ys) ≡ collect f (x ∷ xs) ++ collect f ys
+      go none e h = rw (collect, e, h)
+      go (some y) e h = rw (collect, e, h)
+
+-- what comes of the end points of the first i bigs, and of one more
+module _ {A : Type 0} (f : EndPoint → A) (xs : List Big) (i : ℕ) (d : Big) (there : i < length xs) where
+  ends_more : ends_in (take (i + 1) xs) ≡ ends_in (take i xs) ++ ends_in (get_or xs i d ∷ [])
+  ends_more = rw (add-one i, take-suc xs i d there) (collect_append (λ (b : Big). point_in b.end) (take i xs) (get_or xs i d ∷ []))
+
+  pub no_more : (get_or xs i d).end ≡ None → map f (ends_in (take (i + 1) xs)) ≡ map f (ends_in (take i xs))
+  no_more e = rw (ends_more, collect, e, append-nil)
+
+  pub one_more : (s : EndPoint) → (get_or xs i d).end ≡ Some s → map f (ends_in (take (i + 1) xs)) ≡ map f (ends_in (take i xs)) ++ f s ∷ []
+  one_more s e = rw (ends_more, collect, e) (map-append f (ends_in (take i xs)) (s ∷ []))
+
+-- there are no more of them than bigs
+pub ends_few : {A : Type 0} (f : EndPoint → A) (xs : List Big) (i : ℕ) → length (map f (ends_in (take i xs))) ≤ i
+ends_few f xs i = omega (arith, length-map (ends_in (take i xs)) f, collect-length (λ (b : Big). point_in b.end) (take i xs), length-take i xs)
+
+-- how many rows count, by what they are
+pub count_is : {A : Type 0} {N : ℕ} (r : Rows A N) (l : List A) → rows_in r ≡ l → r.count ≡ length l
+count_is r l e = omega (arith, ap length e, length-take r.count r.rows, r.inside, r.whole)
+
+-- the anchor that ends at a point
+pub anchor_is :
+    (bs : List Big) (buy : Bool) (e : EndPoint) (from : ℕ) (price : code.Option.Option Float) → from ≡ place_behind e.bar bs
+    → price ≡ first_price (ends_behind buy e.bar (take (length bs - from) (drop from bs)))
+    → ◌≡◌ {A = Anchor} (record { bar = e.bar; from = from; price = price }) (anchor_at bs buy e)
+anchor_is bs buy e from price f g =
+    let rest : take (length bs - from) (drop from bs) ≡ drop from bs = take_all (length bs - from) (drop from bs) (omega (arith, length-drop from bs)) in
+    let left : ends_behind buy e.bar (drop from bs) ≡ ends_behind buy e.bar bs = rw f (ends_from e.bar buy bs) in
+    let same : price ≡ first_price (ends_behind buy e.bar bs) = g ∙ ap (λ (l : List Big). first_price (ends_behind buy e.bar l)) rest ∙ ap first_price left in
+    rw (same, f)
+
+-- the place of an anchor is one of the bigs, or behind them
+pub anchor_inside : (s : Side) (bigs : List Big) (i : ℕ) (d : Anchor) → i < length (anchors_in s bigs) → (get_or (anchors_in s bigs) i d).from ≤ length bigs
+anchor_inside s bigs i d h = go (ends_in (take s.anchors bigs)) i h
   where
-    go : (o : Option B) → f x ≡ o → collect f (xs ++ ys) ≡ collect f xs ++ collect f ys → collect f (x ∷ xs ++ ys) ≡ collect f (x ∷ xs) ++ collect f ys
-    go none e h = rw (collect, e, h)
-    go (some y) e h = rw (collect, e, h)
-
--- the anchors among the first i bigs have rows, and no big before place `from` ends behind the last of them
-abbrev pub AnchorsFound : Side → List (List ℕ) → List (List Float) → List (List ℕ) → List Float → ℕ → ℕ → ℕ → ℕ → Type 0
-AnchorsFound s bars prices rows cs n last from i =
-    (c : Levels) → Bigs c s.bigs bars prices → NoneBefore c last from × Anchors c s.buy (collect (last_stroke c) (take i c.bigs)) n rows cs
-
-pub found_none :
-    (s : Side) (bars : List (List ℕ)) (prices : List (List Float)) (rows : List (List ℕ)) (cs : List Float) → AnchorsFound s bars prices rows cs 0 0 0 0
-found_none s bars prices rows cs c t = (none_first c 0, record { count = refl; are = λ i a e. absurd (none-some e) })
-
-module _
-    (s : Side) (bars : List (List ℕ)) (prices : List (List Float)) (rows : List (List ℕ)) (cs : List Float) (n last from i : ℕ)
-    (so_far : AnchorsFound s bars prices rows cs n last from i) (more : i < s.bigs)
-  where
-    module _ (c : Levels) (t : Bigs c s.bigs bars prices) where
-      abbrev b : Triple
-      b = get_or c.bigs i no_triple
-
-      one_more : collect (last_stroke c) (take (i + 1) c.bigs) ≡ collect (last_stroke c) (take i c.bigs) ++ collect (last_stroke c) (b ∷ [])
-      one_more = rw (add-one i, take-suc c.bigs i no_triple (omega (arith, t.count))) (collect_append (last_stroke c) (take i c.bigs) (b ∷ []))
-
-    pub found-missing : point_in (get_or bars i []) (get_or prices i []) ≡ point.Nowhere → AnchorsFound s bars prices rows cs n last from (i + 1)
-    found-missing e c t =
-        let gone = no_point (last_stroke c (b c t)) (sym (point-is c s.bigs bars prices t i more) ∙ e) in
-        ((so_far c t).0, rw (one_more c t, collect, gone, append-nil) (so_far c t).1)
-
-    pub found-more :
-        (bar : ℕ) (x : Float) → point_in (get_or bars i []) (get_or prices i []) ≡ point.At bar x
-        → (place : ℕ) → FirstBehind s.bigs bars prices last from bar place
-        → (end : End) → NextEnd s.bigs bars prices s.buy bar place end
-        → (rows' : List (List ℕ)) (cs' : List Float) → PutsAnchor n bar place end rows cs rows' cs'
-        → AnchorsFound s bars prices rows' cs' (n + 1) bar place (i + 1)
-    found-more bar x e place behind end next rows' cs' put c t =
-        let there = point_stroke (last_stroke c (b c t)) bar x (sym (point-is c s.bigs bars prices t i more) ∙ e) in
-        let before = behind c t (so_far c t).0 in
-        (before, rw (one_more c t, collect, there.1) (put c s.buy _ there.0 there.2 before (next c t) (so_far c t).1))
-
-pub found_all :
-    (s : Side) (bars : List (List ℕ)) (prices : List (List Float)) (rows : List (List ℕ)) (cs : List Float) (n last from i : ℕ)
-    → AnchorsFound s bars prices rows cs n last from i → i ≤ s.anchors → s.anchors ≤ i → AnchorsOf s bars prices n rows cs
-found_all s bars prices rows cs n last from i so_far h k c t =
-    let same : i ≡ s.anchors = omega arith in
-    subst (λ (j : ℕ). Anchors c s.buy (collect (last_stroke c) (take j c.bigs)) n rows cs) same (so_far c t).1
-
--- anchor i of the table
-pub anchor_here :
-    (c : Levels) (buy : Bool) (l : List Stroke) (n : ℕ) (rows : List (List ℕ)) (cs : List Float) → Anchors c buy l n rows cs → (i : ℕ) → i < n
-    → (x : Anchor) → x ≡ anchor_in (get_or rows i []) (get_or cs i nan) → AnchorAt c buy (get_or l i no_stroke) x
-anchor_here c buy l n rows cs t i h x e =
-    let (a, f) = lt_at l i (omega (arith, t.count)) in
-    rw (e, at-getD l i no_stroke a f) (t.are i a f)
+    go : (es : List EndPoint) (i : ℕ) → i < length (map (anchor_at bigs s.buy) es) → (get_or (map (anchor_at bigs s.buy) es) i d).from ≤ length bigs
+    go [] i h = absurd (omega arith)
+    go (e ∷ es) zero h = place_le e.bar bigs
+    go (e ∷ es) (suc i) h = go es i (omega arith)

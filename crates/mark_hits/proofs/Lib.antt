@@ -1,4 +1,4 @@
-pub mod Quotes
 pub mod Hits
-pub mod Ends
 pub mod Anchors
+pub mod Ruled
+pub mod Refused

@@ -1,102 +1,65 @@
--- What the ends of bigs and the table of anchors stand for. Assumes nothing.
-use Rattle.std.specs.Prelude.{ℕ, ◌+◌, ◌<◌, ◌≤◌, ◌≡◌, Bool, cond, not, List, [], ◌∷◌, ◌++◌, map, length, take, drop, get_or, eqb, ltb, Float}
+-- The ends of bigs and the anchors, by the bigs and the superiors of a chart. Assumes nothing.
+use Rattle.std.specs.Prelude.{ℕ, Bool, true, false, cond, List, [], ◌∷◌, map, length, take, ltb, Float, Some, None}
 use Rattle.std.specs.Bool.{beq}
+use Rattle.std.specs.declared.option as code
 use Rattle.std.proofs.Math.Option.{Option, none, some}
-use Rattle.std.proofs.Math.ListN.{get_elem?}
-use Rattle.std.specs.Float.{nan}
-use Rattle.chart.specs.declared.Stroke.{Stroke}
-use Rattle.chart.specs.declared.Triple.{Triple}
-use Rattle.rules.specs.Lists.{keep, collect}
-use Rattle.rules.specs.Records.{is_up, Levels}
-use Rattle.rules.specs.Ranges.{last_stroke}
-use Rattle.rules.specs.Marks.{anchors_of, anchor_side, ends_after, anchor_price}
-use Rattle.tables.specs.declared.Counts.{Counts}
-use Rattle.tables.specs.Tables.{Bigs, Sups}
-use Rattle.mark_hits.specs.declared.End.{End}
-use Rattle.mark_hits.specs.declared.End.TheVariants.{At, Over}
+use Rattle.chart.specs.declared.EndPoint.{EndPoint}
+use Rattle.rules.specs.Lists.{collect, before}
+use Rattle.rules.specs.Records.{is_up}
+use Rattle.tables.specs.declared.Big.{Big}
+use Rattle.tables.specs.declared.Superior.{Superior}
 use Rattle.mark_hits.specs.declared.Side.{Side}
-use Rattle.mark_hits.specs.declared.Price.{Price}
-use Rattle.mark_hits.specs.declared.Price.TheVariants as price
 use Rattle.mark_hits.specs.declared.Anchor.{Anchor}
 
 -- ---- ends of bigs
 
--- the last strokes of those of some bigs that are of a direction and end behind a bar
-abbrev pub ends_in : Levels → Bool → ℕ → List Triple → List Stroke
-ends_in c up bar bs =
-    keep (λ (s : Stroke). ltb bar s.end_bar) (collect (last_stroke c) (keep (λ (b : Triple). beq (is_up b.direction) up) bs))
+-- an end point, where it is behind a bar
+abbrev pub point_behind : ℕ → code.Option.Option EndPoint → Option EndPoint
+point_behind after None = none
+point_behind after (Some e) = cond (ltb after e.bar) (some e) none
 
--- of the bigs from place `from` on: none ends so, or the next one ends at this bar and price, and those from place `next` on follow
-abbrev pub EndsBy : Levels → Bool → ℕ → ℕ → End → Type 0
-EndsBy c up bar from Over = ends_in c up bar (drop from c.bigs) ≡ []
-EndsBy c up bar from (At next end price) =
-    (s : Stroke) × (s.end_bar ≡ end) × (s.end_price ≡ price)
-    × (ends_in c up bar (drop from c.bigs) ≡ s ∷ ends_in c up bar (drop next c.bigs))
+-- the end point of a big of a direction, where it is behind a bar
+abbrev pub end_behind : Bool → ℕ → Big → Option EndPoint
+end_behind up after b = cond (beq (is_up b.direction) up) (point_behind after b.end) none
 
--- the next place lies behind this one, and within m; and the end's bar is one
-abbrev pub LaterEnd : ℕ → ℕ → End → Type 0
-LaterEnd from m Over = Unit {0}
-LaterEnd from m (At next end price) = (from < next) × (next ≤ m) × (end < 0x1_0000)
+-- those of some bigs
+abbrev pub ends_behind : Bool → ℕ → List Big → List EndPoint
+ends_behind up after bs = collect (end_behind up after) bs
 
-abbrev pub NextEnd : ℕ → List (List ℕ) → List (List Float) → Bool → ℕ → ℕ → End → Type 0
-NextEnd m bars prices up bar from r = (c : Levels) → Bigs c m bars prices → EndsBy c up bar from r
+-- whether a big of whatever direction ends behind a bar
+abbrev pub is_behind : ℕ → code.Option.Option EndPoint → Bool
+is_behind after None = false
+is_behind after (Some e) = ltb after e.bar
 
--- no big before a place ends behind a bar
-abbrev pub NoneBefore : Levels → ℕ → ℕ → Type 0
-NoneBefore c bar place = (up : Bool) → ends_after c up bar ≡ ends_in c up bar (drop place c.bigs)
-
--- from such a place for the bar `last` to one for the bar `after`
-abbrev pub FirstBehind : ℕ → List (List ℕ) → List (List Float) → ℕ → ℕ → ℕ → ℕ → Type 0
-FirstBehind m bars prices last place after r = (c : Levels) → Bigs c m bars prices → NoneBefore c last place → NoneBefore c after r
+-- the place of the first big that ends behind a bar; how many bigs there are, where none does
+abbrev pub place_behind : ℕ → List Big → ℕ
+place_behind after bs = length (before (λ (b : Big). is_behind after b.end) bs)
 
 -- ---- anchors
 
--- the end bars of those of some bigs that a hit behind an anchor may have: not of the side's direction, and behind a bar
-abbrev pub end_bars_in : Levels → Bool → ℕ → List Triple → List ℕ
-end_bars_in c buy bar bs = map (λ (s : Stroke). s.end_bar) (ends_in c (not buy) bar bs)
+-- How many of the first bigs are looked at for anchors, and whether the anchors' marks are buys: by the first superior
+abbrev pub side_by : List Superior → Side
+side_by [] = record { anchors = 0; buy = true }
+side_by (s ∷ ss) = record { anchors = s.first; buy = is_up s.direction }
+
+-- the price of the first of some end points
+abbrev pub first_price : List EndPoint → code.Option.Option Float
+first_price [] = None
+first_price (e ∷ es) = Some e.price
+
+-- the anchor that ends at a point: the place of the first big that ends behind it, and its price C
+abbrev pub anchor_at : List Big → Bool → EndPoint → Anchor
+anchor_at bigs buy e =
+    record { bar = e.bar; from = place_behind e.bar bigs; price = first_price (ends_behind buy e.bar bigs) }
+
+-- the end points of some bigs
+abbrev pub point_in : code.Option.Option EndPoint → Option EndPoint
+point_in None = none
+point_in (Some e) = some e
+
+abbrev pub ends_in : List Big → List EndPoint
+ends_in bs = collect (λ (b : Big). point_in b.end) bs
 
 -- the anchors of a side
-abbrev pub anchors_in : Levels → Side → List Stroke
-anchors_in c s = collect (last_stroke c) (take s.anchors c.bigs)
-
--- how many of the first bigs are looked at for anchors, and the anchors' side: those of these levels
-pub record Anchoring (c : Levels) (s : Side) : Type 0 where
-  pub anchors : anchors_in c s ≡ anchors_of c c.superiors
-  pub buy : s.buy ≡ anchor_side c.superiors
-
-abbrev pub SideOf : Counts → List (List ℕ) → Side → Type 0
-SideOf n sups r = (c : Levels) → length c.bigs ≡ n.bigs → Sups c n.superiors sups → Anchoring c r
-
--- the price C, where there is one
-abbrev pub price_of : Price → Option Float
-price_of (price.At p) = some p
-price_of price.Nowhere = none
-
--- a row: the bar, a place, 1 where there is a price C or else 0; and that
-abbrev pub price_in : List ℕ → Float → Price
-price_in row p = cond (eqb (get_or row 2 0) 0) price.Nowhere (price.At p)
-
-abbrev pub anchor_in : List ℕ → Float → Anchor
-anchor_in row p = record { bar = get_or row 0 0; from = get_or row 1 0; price = price_in row p }
-
--- anchor a of a side: its end bar, a place before which no big ends behind that, and its price C
-pub record AnchorAt (c : Levels) (buy : Bool) (a : Stroke) (x : Anchor) : Type 0 where
-  pub bar : a.end_bar ≡ x.bar
-  pub behind : NoneBefore c a.end_bar x.from
-  pub price : anchor_price c buy a ≡ price_of x.price
-
--- the first n rows are these anchors of a side
-pub record Anchors (c : Levels) (buy : Bool) (anchors : List Stroke) (n : ℕ) (rows : List (List ℕ)) (cs : List Float) : Type 0 where
-  pub count : length anchors ≡ n
-  pub are : (i : ℕ) (a : Stroke) → get_elem? anchors i ≡ some a → AnchorAt c buy a (anchor_in (get_or rows i []) (get_or cs i nan))
-
--- One anchor more in row n: it ends at `bar`, no big before place `from` ends behind that, and `end` is the next big of the side that does
-abbrev pub PutsAnchor : ℕ → ℕ → ℕ → End → List (List ℕ) → List Float → List (List ℕ) → List Float → Type 0
-PutsAnchor n bar from end rows cs rows' cs' =
-    (c : Levels) (buy : Bool) (l : List Stroke) (a : Stroke) → a.end_bar ≡ bar → NoneBefore c bar from → EndsBy c buy bar from end
-    → Anchors c buy l n rows cs → Anchors c buy (l ++ a ∷ []) (n + 1) rows' cs'
-
--- the anchors of a side, among bigs that are in two tables
-abbrev pub AnchorsOf : Side → List (List ℕ) → List (List Float) → ℕ → List (List ℕ) → List Float → Type 0
-AnchorsOf s bars prices r rows cs =
-    (c : Levels) → Bigs c s.bigs bars prices → Anchors c s.buy (anchors_in c s) r rows cs
+abbrev pub anchors_in : Side → List Big → List Anchor
+anchors_in s bigs = map (anchor_at bigs s.buy) (ends_in (take s.anchors bigs))

@@ -1,5 +1,4 @@
-pub mod Places
-pub mod Gathered
+pub mod Pushed
 pub mod Bars
-pub mod Numbers
-pub mod Filled
+pub mod Numbered
+pub mod Prices

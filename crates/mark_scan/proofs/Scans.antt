@@ -1,151 +1,112 @@
 -- The scan of one zone, and the scans of all. Assumes nothing.
-use Prim.Native.Nat.{ℕ, suc, ◌+◌, ◌-◌, ◌<◌, ◌≤◌, min}
 use native.Mathlib.Omega.{arith}
+use Prim.Native.Nat.{ℕ, zero, suc, ◌+◌, ◌-◌, ◌<◌}
 use native.Mathlib.Numerals.{add-one}
-use mathlib.Core.Path.{◌≡◌, refl, sym, ap, ◌∙◌}
-use mathlib.Core.Bool.{Bool, true, false}
-use mathlib.Core.List.{List, [], ◌∷◌}
-use mathlib.Core.Logic.{inl, inr}
-use mathlib.Core.Option.{Option, none, some}
-use lib.ListN.{length, get_or, get_elem?, set, drop}
-use lib.Seq.{get_or-set_same, get_or-set_other}
-use lib.Dec.{eqb}
-use lib.Ieee.{Float}
-use borrow.Author.Tests.{lt-leb, eqb-true, eqb-false}
-use Rattle.chart.specs.declared.Stroke.{Stroke}
+use mathlib.Core.Path.{◌≡◌, refl, sym, ap, ◌∙◌, fun_ext}
+use mathlib.Core.Bool.{Bool, not, ◌||◌}
+use mathlib.Core.List.{List, [], ◌∷◌, ◌++◌}
+use lib.ListN.{length, drop, get_or}
+use lib.Dec.{eqb, ltb}
+use Rattle.std.specs.Prelude.{Some, filter, filter_map}
+use Rattle.std.specs.Prelude as words
+use Rattle.std.specs.declared.option as code
+use Rattle.chart.specs.declared.Triple.{Triple}
 use Rattle.chart.specs.declared.Zone.{Zone}
 use Rattle.rules.specs.Records.{Levels}
-use Rattle.rules.specs.Marks.{superior_of, leaving, reversal, reaches, stops, pair_ends, scanned}
+use Rattle.rules.specs.Marks.{superior_of, leaving, reaches_zone, reversal, stops, scanned}
 use Rattle.rules.specs.Zones.{overlap_zones}
-use Rattle.laws.proofs.Lists.{all-at, at-getD, lt_at, at_lt}
+use Rattle.laws.proofs.Lists.{all-at, at-getD, lt_at}
 use Rattle.laws.proofs.Owned.{zones_owned}
-use Rattle.tables.specs.declared.Counts.{Counts}
-use Rattle.tables.specs.Tables.{Sups, Tables}
-use Rattle.tables.proofs.Sups.{triple-is}
-use Rattle.tables.proofs.Zones.{no_zone, owner_of, end_of}
+use Rattle.tables.specs.declared.Big.{Big}
+use Rattle.tables.specs.declared.Superior.{Superior}
+use Rattle.tables.specs.Tables as tables
 use Rattle.mark_scan.specs.declared.Scan.{Scan}
-use Rattle.mark_scan.specs.Scan.{Limits, NextZone, OwnersBelow, StartsAt, reversal_in, limit_of, ZoneScan, ScanOf, ScannedTo, SearchFrom, Scanned}
-use Rattle.mark_scan.proofs.Stops.{leb-min}
-use Rattle.mark_scan.proofs.Pairs.{leave_from}
+use Rattle.mark_scan.specs.Scan.{TablesOf, reached_at, pairs_from, LeavesFrom, Started, ZoneScan, ZoneScans}
+use Rattle.mark_scan.proofs.Opened.{At, opened, same_drop, same_length}
+use Rattle.mark_scan.proofs.Stops.{turn-is}
 
 -- ---- one zone
 
--- the end bar of a stroke is the limit where it is there
-pub stroke_limit : (o : Option Stroke) → Limits (limit_of o) (reaches o)
-unfolding reaches
-stroke_limit none bar below = sym (lt-leb 0x1_0000 bar below)
-stroke_limit (some s) bar below = refl
-
--- the tables at a superior with zones: its direction, first and last
 module _
-    (n : Counts) (bars : List (List ℕ)) (prices : List (List Float)) (sups zb : List (List ℕ)) (owner way first last : ℕ)
-    (below : owner < n.superiors) (is-way : way ≡ get_or (get_or sups owner []) 0 0)
-    (is-first : first ≡ get_or (get_or sups owner []) 1 0) (is_last : last ≡ get_or (get_or sups owner []) 2 0)
+    (c : Levels) (bigs : List Big) (superiors : List Superior) (zones : List Zone) (t : TablesOf c bigs superiors zones) (z : Zone)
+    (below : z.sup_idx < length superiors) (d : Superior)
   where
-    -- its zone at place `at`
-    module _
-        (c : Levels) (zp : List (List Float)) (t : Tables c n bars prices sups zb zp) (at : ℕ) (inside : at < n.zones)
-        (owned : owner ≡ get_or (get_or zb at []) 0 0) (z : Zone) (here : get_elem? (overlap_zones c) at ≡ some z)
-      where
-        there : get_or (overlap_zones c) at no_zone ≡ z
-        there = at-getD (overlap_zones c) at no_zone z here
+    abbrev pub row : Superior
+    row = get_or superiors z.sup_idx d
 
-        own : z.sup_idx ≡ owner
-        own = sym (owned ∙ owner_of (overlap_zones c) n.zones zb zp t.zones at inside ∙ ap (λ (y : Zone). y.sup_idx) there)
+    here : (x : Triple) × At (tables.superior_of c) c.superiors z.sup_idx x row
+    here = opened (tables.superior_of c) c.superiors superiors t.superiors z.sup_idx d below
 
-        end : z.end_bar ≡ get_or (get_or zb at []) 2 0
-        end = sym (end_of (overlap_zones c) n.zones zb zp t.zones at inside ∙ ap (λ (y : Zone). y.end_bar) there)
+    is : superior_of c z ≡ here.0
+    unfolding superior_of
+    is = here.1.read _
 
-        superior : superior_of c z ≡ record { direction = way; first = first; last = last }
-        unfolding superior_of
-        superior = rw (own, is-way, is-first, is_last) (sym (triple-is c n.superiors sups t.superiors owner below))
+    way : row.direction ≡ (superior_of c z).direction
+    way = ap (λ (s : Superior). s.direction) here.1.made ∙ ap (λ (s : Triple). s.direction) (sym is)
 
-    module _ (at : ℕ) (inside : at < n.zones) (owned : owner ≡ get_or (get_or zb at []) 0 0) where
-      abbrev e : ℕ
-      e = get_or (get_or zb at []) 2 0
+    last : row.last ≡ (superior_of c z).last
+    last = ap (λ (s : Superior). s.last) here.1.made ∙ ap (λ (s : Triple). s.last) (sym is)
 
-      -- a search that begins where the scan of the zone before starts ends where that from the superior's first on does
-      search-same :
-          (c : Levels) (zp : List (List Float)) → Tables c n bars prices sups zb zp → (rows : List (List ℕ)) (p : ℕ)
-          → ScannedTo n bars prices sups zb rows at → SearchFrom zb rows at first p
-          → leaving c e (suc last - first) (drop first c.bigs) ≡ leaving c e (suc last - p) (drop p c.bigs)
-      search-same c zp t rows p done (inl same) = rw same
-      search-same c zp t rows p done (inr h) =
-          let earlier : at - 1 < n.zones = omega (arith, inside) in
-          let theirs = owned ∙ sym h.same in
-          let there = lt_at (overlap_zones c) (at - 1) (omega (arith, earlier, t.zones.count)) in
-          let s = superior c zp t (at - 1) earlier theirs there.0 there.1 in
-          let ends_at = end c zp t (at - 1) earlier theirs there.0 there.1 in
-          let scan = done (at - 1) (omega (arith, h.not_first)) c zp t there.0 there.1 in
-          leave_from c _ e first last p h.later h.inside (rw (s, ends_at, ← h.start) at scan.begins)
+    pub first-is : (superior_of c z).first ≡ row.first
+    first-is = ap (λ (s : Triple). s.first) is ∙ ap (λ (s : Superior). s.first) (sym here.1.made)
 
-      pub zone-scan :
-          (rows : List (List ℕ)) (p from near turn limit way' : ℕ) → ScannedTo n bars prices sups zb rows at → SearchFrom zb rows at first p
-          → StartsAt n.bigs bars prices p last e from → NextZone n.zones zb 0 (get_or (get_or zb at []) 0 0) e near
-          → ((c : Levels) → Sups c n.superiors sups → turn ≡ limit_of (reversal_in c way e (drop (owner + 1) c.superiors)))
-          → limit ≡ min near turn → way' ≡ way → ScanOf n bars prices sups zb at (owner ∷ way' ∷ from ∷ limit ∷ [])
-      unfolding stops reversal
-      zone-scan rows p from near turn limit way' done search starts zones turns smaller same c zp t z here =
-          let mine = own c zp t at inside owned z here in
-          let ends_at = end c zp t at inside owned z here in
-          let s = superior c zp t at inside owned z here in
-          record {
-            own = mine;
-            way = rw (s, same);
-            begins = rw (s, ends_at) (search-same c zp t rows p done search ∙ starts c t.bigs);
-            ends = λ bar small.
-                rw (
-                  smaller,
-                  leb-min near turn bar,
-                  ← zones (overlap_zones c) zp t.zones z (mine ∙ owned) ends_at bar small,
-                  turns c t.superiors,
-                  s,
-                  mine,
-                  ends_at,
-                  ← add-one owner,
-                  stroke_limit (reversal_in c way e (drop (owner + 1) c.superiors)) bar small,
-                );
-          }
+    pub zone-scan :
+        (begin from : ℕ) (turn limit : code.Option.Option ℕ) → LeavesFrom c z begin
+        → leaving c z.end_bar (suc row.last - begin) (drop begin c.bigs) ≡ drop from c.bigs
+        → turn ≡ words.find (λ (b : ℕ). ltb z.end_bar b) (filter_map (λ (s : Superior). s.end_bar) (filter (λ (s : Superior). not (eqb s.direction row.direction)) (drop (z.sup_idx + 1) superiors)))
+        → ((bar : ℕ) → reached_at limit bar ≡ (reaches_zone zones z bar || reached_at turn bar))
+        → ZoneScan c z (record { superior = z.sup_idx; direction = row.direction; from = from; limit = limit })
+    unfolding stops reversal
+    zone-scan begin from turn limit leaves starts turns limits =
+        record {
+          own = refl;
+          way = way;
+          begins = leaves ∙ rw last at starts;
+          ends =
+              λ bar.
+              let turn_there = turn-is c (superior_of c z).direction z.end_bar (drop (z.sup_idx + 1) c.superiors) bar in
+              let lent = same_drop (tables.superior_of c) (z.sup_idx + 1) c.superiors superiors t.superiors in
+              sym (limits bar ∙ rw (t.zones, turns, way, lent, turn_there, add-one z.sup_idx) refl);
+        }
 
 -- ---- all zones
 
-module _ (n : Counts) (bars : List (List ℕ)) (prices : List (List Float)) (sups zb rows : List (List ℕ)) (i : ℕ)
-    (done : ScannedTo n bars prices sups zb rows i) where
-  pub scans-next : (row : List ℕ) → i < length rows → ScanOf n bars prices sups zb i row → ScannedTo n bars prices sups zb (set rows i row) (i + 1)
-  scans-next row k scan j h = go (eqb j i) refl
-    where
-      go : (u : Bool) → eqb j i ≡ u → ScanOf n bars prices sups zb j (get_or (set rows i row) j [])
-      go true f = let same = eqb-true j i f in rw (same, get_or-set_same rows i row [] k) scan
-      go false f = let other = eqb-false j i f in rw (get_or-set_other rows i j row [] other) (done j (omega (arith, h, other)))
+-- a zone's superior is one
+pub owned :
+    (c : Levels) (bigs : List Big) (superiors : List Superior) (zones : List Zone) → TablesOf c bigs superiors zones
+    → (i : ℕ) (d : Zone) → i < length zones → (get_or zones i d).sup_idx < length superiors
+owned c bigs superiors zones t i d h =
+    let (z, at) = lt_at (overlap_zones c) i (rw t.zones at h) in
+    let below = all-at i z (zones_owned c) at in
+    let read : get_or zones i d ≡ z = rw t.zones (at-getD (overlap_zones c) i d z at) in
+    rw (read, same_length (tables.superior_of c) c.superiors superiors t.superiors) below
 
-  pub scans-all : n.zones ≤ i → (c : Levels) (zp : List (List Float)) → Tables c n bars prices sups zb zp → Scanned c n bars prices sups rows
-  scans-all k c zp t =
-      record {
-        fits = t.fits;
-        bigs = t.bigs;
-        superiors = t.superiors;
-        scans =
-            record {
-              count = t.zones.count;
-              are = λ j z here. done j (omega (arith, k, at_lt (overlap_zones c) j z here, t.zones.count)) c zp t z here;
-            };
-      }
+-- one scan more
+pub scans-more : (c : Levels) {zs : List Zone} {ss : List Scan} → ZoneScans c zs ss → (z : Zone) (s : Scan) → ZoneScan c z s → ZoneScans c (zs ++ z ∷ []) (ss ++ s ∷ [])
+scans-more c ZoneScans.no_scans z s h = ZoneScans.scan_and h ZoneScans.no_scans
+scans-more c (ZoneScans.scan_and g more) z s h = ZoneScans.scan_and g (scans-more c more z s h)
+
+-- where it starts, for the search of the next
+pub start-known :
+    (c : Levels) (z : Zone) (s : Scan) → ZoneScan c z s → Started c (Some (record { superior = z.sup_idx; end_bar = z.end_bar; from = s.from }))
+unfolding superior_of
+start-known c z s h y own end = rw (own, end) h.begins
 
 -- ---- for users
 
 -- what a zone's scan meets
-pub scanned-is :
-    (c : Levels) (zs : List Zone) (z : Zone) (s : Scan) → ZoneScan c zs z s
-    → scanned c zs z ≡ pair_ends c (stops c zs z) s.direction (drop s.from c.bigs)
+pub scanned-is : (c : Levels) (z : Zone) (s : Scan) → ZoneScan c z s → scanned c (overlap_zones c) z ≡ pairs_from c s s.from
 unfolding scanned
-scanned-is c zs z s scan = rw (scanned, scan.begins, scan.way)
+scanned-is c z s scan = let stop : ◌≡◌ {A = ℕ → Bool} (stops c (overlap_zones c) z) (reached_at s.limit) = fun_ext scan.ends in rw (scanned, stop, scan.begins, scan.way)
 
--- the zones of a chart's tables are of its superiors
-pub tables_owners :
-    (c : Levels) (n : Counts) (bars : List (List ℕ)) (prices : List (List Float)) (sups zb : List (List ℕ)) (zp : List (List Float))
-    → Tables c n bars prices sups zb zp → OwnersBelow n.zones zb n.superiors
-tables_owners c n bars prices sups zb zp t i h =
-    let there = lt_at (overlap_zones c) i (omega (arith, h, t.zones.count)) in
-    let owner = owner_of (overlap_zones c) n.zones zb zp t.zones i h in
-    let same = ap (λ (z : Zone). z.sup_idx) (at-getD (overlap_zones c) i no_zone there.0 there.1) in
-    omega (arith, owner, same, all-at i there.0 (zones_owned c) there.1, t.superiors.count)
+-- one scan of those of some zones
+pub scan-at :
+    (c : Levels) {zs : List Zone} {ss : List Scan} → ZoneScans c zs ss → (i : ℕ) (z : Zone) (s : Scan) → i < length ss → ZoneScan c (get_or zs i z) (get_or ss i s)
+scan-at c ZoneScans.no_scans i z s h = absurd (omega arith)
+scan-at c (ZoneScans.scan_and g more) zero z s h = g
+scan-at c (ZoneScans.scan_and g more) (suc i) z s h = scan-at c more i z s (omega arith)
+
+-- there are as many scans as zones
+pub scans-length : (c : Levels) {zs : List Zone} {ss : List Scan} → ZoneScans c zs ss → length ss ≡ length zs
+scans-length c ZoneScans.no_scans = refl
+scans-length c (ZoneScans.scan_and g more) = let l = scans-length c more in omega arith

@@ -1,318 +1,221 @@
-// The scan of a zone's pairs, for third and 3+N marks: where it starts, what stops it, and the next pair. A limit of 65,536 is none.
+// The scan of a zone's pairs, for third and 3+N marks: where it starts, what stops it, and the next pair.
 
 #![tactic(auto)]
 
-ghost use Rattle.std.specs.Prelude.{◌≡◌, true, cond, not, ◌&&◌, List, [], ◌+◌, ◌-◌, ◌%◌};
-ghost use Rattle.std.specs.Prelude.{◌≤◌, ◌<◌, min, length, get_or, drop, eqb, leb, ltb, Float};
+ghost use Rattle.std.specs.Prelude.{◌≡◌, ℕ, true, not, ◌&&◌, ◌||◌, ◌==◌, [], suc, ◌-◌, ◌<◌, ◌≤◌, length, drop, get_or, eqb, leb, ltb, filter, filter_map, find};
+ghost use Rattle.std.specs.List.Sorted.{IsNonDecreasingBy};
+ghost use Rattle.chart.specs.declared.Zone.{Zone};
+ghost use Rattle.rows.specs.Rows.{rows_in};
 ghost use Rattle.rules.specs.Records.{Levels};
-ghost use Rattle.tables.specs.Tables.{Sups, Fits, Tables};
-ghost use Rattle.mark_scan.specs.Scan.{NextZone, StartsRise, OwnersBelow, reversal_in, limit_of, Later, NextPair, StartsAt, scan_in};
-ghost use Rattle.mark_scan.specs.Scan.{ScanOf, ScannedTo, SearchFrom, Scanned};
+ghost use Rattle.rules.specs.Marks.{superior_of, leaving, reaches_zone};
+ghost use Rattle.tables.specs.declared.Superior.{Superior};
+ghost use Rattle.tables.specs.Tables.{bigs_of};
+ghost use Rattle.mark_scan.specs.Scan.{TablesOf, reached_at, pairs_from, pairs_by, Later, LeavesFrom, Started, ZoneScan, Scanned, Owned};
 
-use chart::Range;
-use tables::Counts;
+use chart::{Range, Zone};
+use rows::Rows;
+use tables::{Big, Superior};
+
+// The scan of a zone: its superior and that one's direction, the place of the big where it starts, and the bar that stops it, if one does.
+#[derive(Clone, Copy)]
+pub struct Scan {
+    pub superior: u16,
+    pub direction: u8,
+    pub from: usize,
+    pub limit: Option<u16>,
+}
+
+// What stands in a place that is not counted.
+pub const NO_SCAN: Scan = Scan {
+    superior: 0,
+    direction: 0,
+    from: 0,
+    limit: None,
+};
 
 // ---- where it starts
 
-// The place of the first big from `first` to `last` that starts at bar e or later, and one past the last where there is none; m where
-// that is behind all m bigs. A big whose range is missing is passed over.
-fn start_of(
-    bars: &[[u16; 6]; 256],
-    prices: &[[f64; 3]; 256],
-    m: usize,
-    first: usize,
-    last: usize,
-    e: u16,
-) -> usize
-    requires { (m ≤ 256) × (last < 65536) }
-    ensures upper_bound { result ≤ m }
-    ensures starts_at { StartsAt m bars.now prices.now first last e result }
+// The place of the first big from `begin` to `last` that starts at bar e or later, and one past the last where there is none. A big whose
+// range is missing is passed over.
+fn start_of(bigs: &[Big], begin: usize, last: u16, e: u16) -> usize
+    ensures { (c : Levels) → bigs.now ≡ bigs_of c → leaving c e (suc last - begin) (drop begin c.bigs) ≡ drop result c.bigs }
 {
-    let end = tables::at_most(last + 1, m);
-    let mut k = first;
-    while k < end {
-        let i = k;
-        k += 1;
-        let Range::Found(span) = tables::range_at(bars, prices, i) else {
-            continue;
-        };
-        if e <= span.start_bar {
-            return i;
+    let end = last as usize + 1;
+    for k in begin..end.min(bigs.len()) {
+        if let Range::Found(span) = bigs[k].range {
+            if e <= span.start_bar {
+                return k;
+            }
         }
     }
-    tables::at_most(k, m)
+    begin.max(end)
+}
+
+// Where the scan of a zone started, with the zone's superior and its end bar.
+#[derive(Clone, Copy)]
+pub struct Start {
+    pub superior: u16,
+    pub end_bar: u16,
+    pub from: usize,
+}
+
+// Where the search for the start of zone z's scan begins: at its superior's first big, or where the scan of the zone before started, if that
+// is of the same superior and ends no later.
+fn search_from(first: usize, z: &Zone, before: Option<Start>) -> usize
+    ensures { (c : Levels) → Started c before → (superior_of c z.now).first ≡ first → LeavesFrom c z.now result }
+{
+    match before {
+        Some(start) if start.superior == z.sup_idx && start.end_bar <= z.end_bar => {
+            start.from.max(first)
+        }
+        _ => first,
+    }
 }
 
 // ---- what stops it
 
-// How many bars a zone starts behind bar e + 1, where it is of another superior than h and starts behind e; elsewhere so many that they
-// lead behind all bars. A sum that wraps, so that no test stands in the loop.
-fn bars_behind(h: u16, e: u16, owner: u16, start: u16) -> u16
-    ensures value { result ≡ cond (eqb owner h) 0xffff ((start + (0xffff - e)) % 0x1_0000) }
-    ensures e_bound { (e < 0x1_0000) × (start < 0x1_0000) }
+// Whether a bar reaches a limit.
+pub fn reached(limit: Option<u16>, bar: u16) -> bool
+    ensures { result ≡ reached_at limit bar }
 {
-    if owner == h {
-        return 65535;
-    }
-    ((start as u32 + (65535 - e as u32)) % 65536) as u16
-}
-
-// The smaller of two numbers of bars.
-fn fewer(a: u16, b: u16) -> u16
-    ensures { result ≡ min a b }
-{
-    if a < b { a } else { b }
-}
-
-// The least start bar of a zone of another superior than h that starts behind bar e. Every zone is looked at, with no test that ends the
-// loop, so that many can be taken at once.
-fn next_zone(zb: &[[u16; 8]; 256], n: usize, h: u16, e: u16) -> u32
-    requires { n ≤ 256 }
-    ensures { NextZone n zb.now 0 h e result }
-{
-    let mut least = 65535u16;
-    let mut i = 0usize;
-    while i < n {
-        let more = bars_behind(h, e, zb[i][0], zb[i][1]);
-        least = fewer(least, more);
-        i += 1;
-    }
-    if least < 65535 - e {
-        return least as u32 + e as u32 + 1;
-    }
-    65536
-}
-
-// Whether a zone is of another superior than h and starts behind bar e.
-fn is_next(h: u16, e: u16, owner: u16, start: u16) -> bool
-    ensures { (result ≡ (not (eqb owner h) && ltb e start)) × (start < 0x1_0000) }
-{
-    owner != h && e < start
-}
-
-// The start bar of the first zone from place `from` on that is of another superior than h and starts behind bar e, where start bars never
-// fall.
-fn zone_behind(zb: &[[u16; 8]; 256], n: usize, from: usize, h: u16, e: u16) -> u32
-    requires { (n ≤ 256) × StartsRise n zb.now }
-    ensures { NextZone n zb.now from h e result }
-{
-    let mut i = from;
-    while i < n {
-        if is_next(h, e, zb[i][0], zb[i][1]) {
-            return zb[i][1] as u32;
-        }
-        i += 1;
-    }
-    65536
-}
-
-// As next_zone, for the zone at place `at`. Where no zone starts before the one before it, the first that counts behind that place is the
-// nearest.
-fn zone_limit(zb: &[[u16; 8]; 256], n: usize, rise: bool, at: usize) -> u32
-    requires { (at < n) × (n ≤ 256) × (rise ≡ true → StartsRise n zb.now) }
-    ensures { NextZone n zb.now 0 (get_or (get_or zb.now at []) 0 0) (get_or (get_or zb.now at []) 2 0) result }
-{
-    let h = zb[at][0];
-    let e = zb[at][2];
-    if rise {
-        if zb[at][1] <= e {
-            return zone_behind(zb, n, at, h, e);
-        }
-    }
-    next_zone(zb, n, h, e)
-}
-
-// Whether the start bars of the first n zones never fall.
-fn starts_rise(zb: &[[u16; 8]; 256], n: usize) -> bool
-    requires { n ≤ 256 }
-    ensures { result ≡ true → StartsRise n zb.now }
-{
-    let mut rise = true;
-    let mut last = 0u16;
-    let mut i = 0usize;
-    while i < n {
-        let start = zb[i][1];
-        rise = rise & (last <= start);
-        last = start;
-        i += 1;
-    }
-    rise
-}
-
-// Whether a superior is not of direction d, and has an end bar that is behind bar e.
-fn turns(d: u16, e: u16, way: u16, there: u16, end: u16) -> bool
-    ensures { (result ≡ (not (eqb there 0) && not (eqb way d) && ltb e end)) × (end < 0x1_0000) }
-{
-    if there == 0 {
-        return false;
-    }
-    way != d && e < end
+    limit.is_some_and(|stop| stop <= bar)
 }
 
 // The first end bar behind e among the superiors from place `from` on that are not of direction d.
-fn reversal(sups: &[[u16; 5]; 256], n: usize, from: usize, d: u16, e: u16) -> u32
-    requires { n ≤ 256 }
-    ensures { (c : Levels) → Sups c n sups.now → result ≡ limit_of (reversal_in c d e (drop from c.superiors)) }
+fn reversal(superiors: &[Superior], from: usize, d: u8, e: u16) -> Option<u16>
+    ensures { result ≡ find (λ bar. ltb e bar) (filter_map (λ (s : Superior). s.end_bar)
+        (filter (λ (s : Superior). not (s.direction == d)) (drop from superiors.now))) }
 {
-    let mut i = from;
-    while i < n {
-        if turns(d, e, sups[i][0], sups[i][3], sups[i][4]) {
-            return sups[i][4] as u32;
+    superiors
+        .iter()
+        .skip(from)
+        .filter(|s| s.direction != d)
+        .filter_map(|s| s.end_bar)
+        .find(|bar| e < *bar)
+}
+
+// The nearer of a limit and a bar.
+fn nearer(limit: Option<u16>, bar: u16) -> Option<u16>
+    ensures { (b : ℕ) → reached_at result b ≡ (reached_at limit b || leb bar b) }
+{
+    Some(limit.map_or(bar, |stop| stop.min(bar)))
+}
+
+// Whether zone y is of another superior than zone z and starts behind its end.
+fn is_next(y: &Zone, z: &Zone) -> bool
+    ensures { result ≡ (not (eqb y.now.sup_idx z.now.sup_idx) && ltb z.now.end_bar y.now.start_bar) }
+{
+    y.sup_idx != z.sup_idx && z.end_bar < y.start_bar
+}
+
+// Whether the start bars of zones never fall.
+fn starts_rise(zones: &[Zone]) -> bool
+    ensures { result ≡ true → IsNonDecreasingBy (λ (z : Zone). z.start_bar) zones.now }
+{
+    zones.is_sorted_by(|y, z| y.start_bar <= z.start_bar)
+}
+
+// The bar that stops zone z's scan: `turn`, the end bar of its reversal, or the least start bar among the zones from place `from` on that are
+// of another superior and start behind z's end. Where start bars never fall, the first such zone is the nearest.
+fn limit_of(zones: &[Zone], from: usize, rise: bool, z: &Zone, turn: Option<u16>) -> Option<u16>
+    requires { rise ≡ true → IsNonDecreasingBy (λ (y : Zone). y.start_bar) zones.now }
+    ensures { (bar : ℕ) → reached_at result bar ≡ (reaches_zone (drop from zones.now) z.now bar || reached_at turn bar) }
+{
+    let mut limit = turn;
+    for k in from..zones.len() {
+        if !is_next(&zones[k], z) {
+            continue;
         }
-        i += 1;
+        limit = nearer(limit, zones[k].start_bar);
+        if rise {
+            return limit;
+        }
     }
-    65536
+    limit
 }
 
 // ---- the scans of all zones
 
-// The scan of a zone: its superior and that one's direction, the place of the big where it starts, and the limit that stops it.
-#[derive(Clone, Copy)]
-pub struct Scan {
-    pub superior: u32,
-    pub direction: u32,
-    pub from: u32,
-    pub limit: u32,
-}
-
-pub fn scan_at(scans: &[[u32; 4]; 256], i: usize) -> Scan
-    requires { i < 256 }
-    ensures { result ≡ scan_in (get_or scans.now i []) }
-{
-    Scan {
-        superior: scans[i][0],
-        direction: scans[i][1],
-        from: scans[i][2],
-        limit: scans[i][3],
-    }
-}
-
-// The smaller of two limits.
-fn smaller_limit(a: u32, b: u32) -> u32
-    ensures { result ≡ min a b }
-{
-    if a < b { a } else { b }
-}
-
-// Where the search for a scan's start begins: at the superior's first big, or where the scan of the zone before starts, if that is of the
-// same superior and ends no later.
-fn search_from(zb: &[[u16; 8]; 256], scans: &[[u32; 4]; 256], at: usize, first: usize) -> usize
-    requires { at < 256 }
-    ensures { SearchFrom zb.now scans.now at first result }
-{
-    if at == 0 {
-        return first;
-    }
-    let i = at - 1;
-    if zb[i][0] != zb[at][0] {
-        return first;
-    }
-    if zb[at][2] < zb[i][2] {
-        return first;
-    }
-    let from = scan_at(scans, i).from as usize;
-    if from < first { first } else { from }
-}
-
-// The row of the scan of the zone at place `at`, where the rows of those before are in `scans`; `rise` where the zones' start bars never
-// fall.
+// The scan of the zone at place i; `rise` where start bars never fall, and `before` is the start of the scan of the zone before.
 fn scan_of(
-    bars: &[[u16; 6]; 256],
-    prices: &[[f64; 3]; 256],
-    sups: &[[u16; 5]; 256],
-    zb: &[[u16; 8]; 256],
-    scans: &[[u32; 4]; 256],
-    counts: Counts,
+    bigs: &[Big],
+    superiors: &[Superior],
+    zones: &[Zone],
+    i: usize,
     rise: bool,
-    at: usize,
-) -> [u32; 4]
-    requires fits { Fits counts × (at < counts.zones) }
-    requires owners_below { OwnersBelow counts.zones zb.now counts.superiors × (rise ≡ true → StartsRise counts.zones zb.now) }
-    requires scanned_to { ScannedTo counts bars.now prices.now sups.now zb.now scans.now at }
-    ensures { ScanOf counts bars.now prices.now sups.now zb.now at result }
+    before: Option<Start>,
+) -> Scan
+    requires here { (i < length zones.now) × Owned zones.now (length superiors.now) }
+    requires rise { rise ≡ true → IsNonDecreasingBy (λ (y : Zone). y.start_bar) zones.now }
+    ensures { (c : Levels) (d : Zone) → TablesOf c bigs.now superiors.now zones.now → Started c before
+        → ZoneScan c (get_or zones.now i d) result }
 {
-    let owner = tables::wide(zb[at][0]);
-    let e = zb[at][2];
-    let way = sups[owner][0];
-    let first = tables::wide(sups[owner][1]);
-    let last = tables::wide(sups[owner][2]);
-    let begin = search_from(zb, scans, at, first);
-    let from = start_of(bars, prices, counts.bigs, begin, last, e);
-    let near = zone_limit(zb, counts.zones, rise, at);
-    let turn = reversal(sups, counts.superiors, owner + 1, way, e);
-    [
-        owner as u32,
-        tables::wide(way) as u32,
-        from as u32,
-        smaller_limit(near, turn),
-    ]
+    let z = &zones[i];
+    let h = superiors[z.sup_idx as usize];
+    let begin = search_from(h.first as usize, z, before);
+    let turn = reversal(superiors, z.sup_idx as usize + 1, h.direction, z.end_bar);
+    // no zone before this one starts behind its end, where it does not itself
+    let next = if rise && z.start_bar <= z.end_bar {
+        i
+    } else {
+        0
+    };
+    Scan {
+        superior: z.sup_idx,
+        direction: h.direction,
+        from: start_of(bigs, begin, h.last, z.end_bar),
+        limit: limit_of(zones, next, rise, z, turn),
+    }
 }
 
-// The scans of the zones into a table: of each its superior, that one's direction, where the scan starts, and the limit that stops it.
-pub fn scans_of(
-    bars: &[[u16; 6]; 256],
-    prices: &[[f64; 3]; 256],
-    sups: &[[u16; 5]; 256],
-    zb: &[[u16; 8]; 256],
-    counts: Counts,
-    scans: &mut [[u32; 4]; 256],
-)
-    requires { Fits counts × OwnersBelow counts.zones zb.now counts.superiors × (length scans.old ≡ 256) }
-    ensures scans_len { length scans.new ≡ 256 }
-    ensures scanned { (c : Levels) (zp : List (List Float))
-        → Tables c counts bars.now prices.now sups.now zb.now zp
-        → Scanned c counts bars.now prices.now sups.now scans.new }
+// The scans of the overlap zones of some levels.
+pub fn scans_of(bigs: &[Big], superiors: &[Superior], zones: &[Zone], scans: &mut Rows<Scan, 256>)
+    requires room { length zones.now ≤ 256 }
+    requires owned { Owned zones.now (length superiors.now) }
+    ensures { (c : Levels) → TablesOf c bigs.now superiors.now zones.now → Scanned c (rows_in scans.new) }
 {
-    let rise = starts_rise(zb, counts.zones);
-    let mut i = 0usize;
-    while i < counts.zones {
-        scans[i] = scan_of(bars, prices, sups, zb, scans, counts, rise, i);
-        i += 1;
+    scans.count = 0;
+    let rise = starts_rise(zones);
+    let mut before = None;
+    for (i, z) in zones.iter().enumerate() {
+        let scan = scan_of(bigs, superiors, zones, i, rise, before);
+        scans.push(scan);
+        before = Some(Start {
+            superior: z.sup_idx,
+            end_bar: z.end_bar,
+            from: scan.from,
+        });
     }
 }
 
 // ---- pairs
 
-// The next pair of a scan: the place behind its first big, and the end bar of its second.
+// The next pair of a scan: the place of its second big, and that one's end bar.
 #[derive(Clone, Copy)]
-pub enum Pair {
-    At(usize, usize),
-    Over,
-}
-
-// Whether a bar reaches a limit.
-pub fn reached(limit: u32, bar: u16) -> bool
-    ensures { (result ≡ leb limit bar) × (bar < 0x1_0000) }
-{
-    limit <= bar as u32
+pub struct Pair {
+    pub next: usize,
+    pub bar: u16,
 }
 
 // From big `from` on: stop when there is no big k + 1, its range is missing or its end bar reaches the limit; skip k when its direction
-// isn't d.
-pub fn next_pair(
-    bars: &[[u16; 6]; 256],
-    prices: &[[f64; 3]; 256],
-    m: usize,
-    d: u32,
-    limit: u32,
-    from: usize,
-) -> Pair
-    requires { (m ≤ 256) × (from < 65536) }
-    ensures later { Later from m result }
-    ensures next_pair { NextPair m bars.now prices.now d limit from result }
+// isn't the scan's.
+pub fn next_pair(bigs: &[Big], scan: &Scan, from: usize) -> Option<Pair>
+    ensures later { Later from (length bigs.now) result }
+    ensures pairs { (c : Levels) → bigs.now ≡ bigs_of c → pairs_from c scan.now from ≡ pairs_by c scan.now result }
 {
-    let mut k = from;
-    while k + 1 < m {
-        let Range::Found(span) = tables::range_at(bars, prices, k + 1) else {
-            return Pair::Over;
+    for k in from..bigs.len().saturating_sub(1) {
+        let Range::Found(span) = bigs[k + 1].range else {
+            return None;
         };
-        if reached(limit, span.end_bar) {
-            return Pair::Over;
+        if reached(scan.limit, span.end_bar) {
+            return None;
         }
-        if tables::way_at(bars, k) as u32 == d {
-            return Pair::At(k + 1, span.end_bar as usize);
+        if bigs[k].direction == scan.direction {
+            return Some(Pair {
+                next: k + 1,
+                bar: span.end_bar,
+            });
         }
-        k += 1;
     }
-    Pair::Over
+    None
 }

@@ -1,132 +1,108 @@
 -- The bars of a superior's zones, one zone after the other. Assumes nothing.
 use Prim.Native.Nat.{ℕ, ◌+◌, ◌<◌, ◌≤◌}
 use native.Mathlib.Omega.{arith}
+use native.Mathlib.Numerals.{add-one}
 use mathlib.Core.Path.{◌≡◌, refl, sym, ap, subst, ◌∙◌}
 use mathlib.Core.List.{List, [], ◌∷◌, ◌++◌, foldl, foldl-append}
-use mathlib.Core.Option.{some}
-use lib.ListN.{length, get_or, get_elem?, take, drop, drop_of_length-le}
-use lib.Seq.{drop-drop}
-use lib.Ieee.{Float}
-use lib.Dec.{leb}
+use lib.ListN.{length, get_or, drop, length-drop, drop_of_length-le}
+use lib.Seq.{drop-cons}
 use Rattle.chart.specs.declared.Zone.{Zone}
 use Rattle.rules.specs.Lists.{each}
 use Rattle.rules.specs.Records.{Levels}
 use Rattle.rules.specs.Zones.{overlap_zones}
 use Rattle.rules.specs.Marks.{scanned, insert_bar}
-use Rattle.laws.proofs.Lists.{All, lt_at, at_drop, all-at, all_right}
 use Rattle.laws.specs.Lists.{end_bars}
-use Rattle.tables.specs.declared.Counts.{Counts}
+use Rattle.laws.proofs.Lists.{all-at, all_right}
 use Rattle.mark_scan.specs.declared.Scan.{Scan}
-use Rattle.mark_scan.specs.Scan.{ZoneScan, scan_in, Scanned}
-use Rattle.mark_scan.proofs.Scans.{scanned-is}
-use Rattle.mark_superiors.specs.Superiors.{RisingAmong, PutsPairs, Block, TakesBlock}
-use Rattle.mark_superiors.proofs.ZoneBars.{among_more, pairs_end}
+use Rattle.mark_scan.specs.Scan.{pairs_from, ZoneScan, Scanned}
+use Rattle.mark_scan.proofs.Scans.{scanned-is, scan-at, scans-length}
+use Rattle.mark_superiors.specs.Superiors.{RisingAmong, Block}
+use Rattle.mark_superiors.proofs.ZoneBars.{among_none, among_more, pairs_end}
 
--- what is left of a list from place i on: its element there, and those behind it
-front : (i : ℕ) (l : List Zone) (x : Zone) (xs : List Zone) → drop i l ≡ x ∷ xs → (get_elem? l i ≡ some x) × (drop (i + 1) l ≡ xs)
-front i l x xs e = let same : i + 0 ≡ i = omega arith in (sym (rw (e, same) at (at_drop i 0 l)), sym (rw e at (drop-drop 1 i l)))
+-- the element at place i, and those behind it
+front : (i : ℕ) (l : List Zone) (x : Zone) (xs : List Zone) → i < length l → drop i l ≡ x ∷ xs → (get_or l i x ≡ x) × (drop (i + 1) l ≡ xs)
+front i l x xs h e =
+    let both : get_or l i x ∷ drop (i + 1) l ≡ x ∷ xs = sym (rw (add-one i) (drop-cons l i x h)) ∙ e in
+    (cc, cc)
 
--- of a superior's own zones these are left at place i
-pub record OwnLeft (c : Levels) (h : ℕ) (own later : List Zone) (out : List ℕ) (k i : ℕ) : Type 0 where
-  pub rest : List Zone
-  pub block : Block c h i rest later
-  pub bars :
-      foldl insert_bar (take k out) (each (scanned c (overlap_zones c)) rest) ≡ foldl insert_bar [] (each (scanned c (overlap_zones c)) own)
+module _ (c : Levels) (h : ℕ) (scans : List Scan) where
+  -- the bars of some zones' scans
+  abbrev zone_bars : List Zone → List ℕ
+  zone_bars zs = each (scanned c (overlap_zones c)) zs
 
--- of superior h's zones, which stand from place `from` on, those before place i are gathered
-pub record ZonesSoFar
-    (h : ℕ) (scans : List (List ℕ)) (n : Counts) (from : ℕ) (bars : List (List ℕ)) (prices : List (List Float)) (out : List ℕ) (k i : ℕ) : Type 0
-  where
-    pub wide : length out ≡ 257
-    pub low : k ≤ 257
-    pub among :
-        (c : Levels) (sups : List (List ℕ)) → Scanned c n bars prices sups scans → RisingAmong (end_bars c) [] → RisingAmong (end_bars c) (take k out)
-    pub left :
-        (c : Levels) (sups : List (List ℕ)) (own later : List Zone) → Scanned c n bars prices sups scans → Block c h from own later
-        → OwnLeft c h own later out k i
+  -- of superior h's own zones these are left at place i, and with their bars put in the bars come to all
+  pub record OwnLeft (own later : List Zone) (bars : List ℕ) (i : ℕ) : Type 0 where
+    pub rest : List Zone
+    pub block : Block c h i rest later
+    pub put : foldl insert_bar bars (zone_bars rest) ≡ foldl insert_bar [] (zone_bars own)
 
-module _ (h : ℕ) (scans : List (List ℕ)) (n : Counts) (from : ℕ) (bars : List (List ℕ)) (prices : List (List Float)) where
-  pub taken-first : (out : List ℕ) → length out ≡ 257 → ZonesSoFar h scans n from bars prices out 0 from
-  taken-first out w =
-      record {
-        wide = w;
-        low = omega arith;
-        among = λ c sups s a. a;
-        left = λ c sups own later s b. record { rest = own; block = b; bars = refl };
-      }
+  -- of superior h's zones, which stand from place `from` on, those before place i have their bars put in
+  pub record ZonesSoFar (from : ℕ) (bars : List ℕ) (i : ℕ) : Type 0 where
+    pub among : RisingAmong (end_bars c) bars
+    pub left : (own later : List Zone) → Block c h from own later → OwnLeft own later bars i
 
-  module _ (out : List ℕ) (k i : ℕ) (so_far : ZonesSoFar h scans n from bars prices out k i) where
+  pub zones-first : (from : ℕ) (bars : List ℕ) → bars ≡ [] → ZonesSoFar from bars from
+  zones-first from bars e =
+      record { among = rw e (among_none (end_bars c)); left = λ own later b. record { rest = own; block = b; put = rw e } }
+
+  module _ (all : Scanned c scans) (from : ℕ) (bars : List ℕ) (i : ℕ) (so_far : ZonesSoFar from bars i) where
+    many : length scans ≡ length (overlap_zones c)
+    many = scans-length c all
+
     -- where none of the superior's own can be left
     done :
-        ((c : Levels) (sups : List (List ℕ)) (z : Zone) (rest later : List Zone) → Scanned c n bars prices sups scans → Block c h i (z ∷ rest) later → ⊥)
-        → TakesBlock h n bars prices scans from k i out
-    done no_more c sups own later s b = let l = so_far.left c sups own later s b in go l.rest l.block l.bars
+        (r : ℕ) → ((z : Zone) (rest later : List Zone) → Block c h i (z ∷ rest) later → ⊥) → drop r (overlap_zones c) ≡ drop i (overlap_zones c)
+        → (own later : List Zone) → Block c h from own later → (bars ≡ foldl insert_bar [] (zone_bars own)) × (drop r (overlap_zones c) ≡ later)
+    done r no_more same own later b = let l = so_far.left own later b in go l.rest l.block l.put
       where
         go :
-            (rest : List Zone) → Block c h i rest later
-            → foldl insert_bar (take k out) (each (scanned c (overlap_zones c)) rest) ≡ foldl insert_bar [] (each (scanned c (overlap_zones c)) own)
-            → (take k out ≡ foldl insert_bar [] (each (scanned c (overlap_zones c)) own)) × (drop i (overlap_zones c) ≡ later)
-        go [] left e = (e, left.stand)
-        go (z ∷ rest) left e = absurd (no_more c sups z rest later s left)
+            (rest : List Zone) → Block c h i rest later → foldl insert_bar bars (zone_bars rest) ≡ foldl insert_bar [] (zone_bars own)
+            → (bars ≡ foldl insert_bar [] (zone_bars own)) × (drop r (overlap_zones c) ≡ later)
+        go [] left e = (e, same ∙ left.stand)
+        go (z ∷ rest) left e = absurd (no_more z rest later left)
 
     -- no zone is left
-    pub taken-over : n.zones ≤ i → TakesBlock h n bars prices scans from k i out
-    taken-over over =
-        done (λ c sups z rest later s b.
-        let none = drop_of_length-le (overlap_zones c) {i = i} (omega (arith, s.scans.count)) in
-        omega (arith, ap (λ (m : List Zone). length m) (sym none ∙ b.stand)))
+    pub zones-over :
+        length scans ≤ i → (own later : List Zone) → Block c h from own later
+        → (bars ≡ foldl insert_bar [] (zone_bars own)) × (drop (length scans) (overlap_zones c) ≡ later)
+    zones-over over =
+        let none : drop i (overlap_zones c) ≡ [] = drop_of_length-le (overlap_zones c) {i = i} (omega (arith, many)) in
+        let gone : drop (length scans) (overlap_zones c) ≡ [] = drop_of_length-le (overlap_zones c) {i = length scans} (omega (arith, many)) in
+        done (length scans) (λ z rest later b. let e : z ∷ rest ++ later ≡ [] = sym b.stand ∙ none in cc) (gone ∙ sym none)
 
-    -- the scan that is read at place i
-    module _ (scan : Scan) (read : scan ≡ scan_in (get_or scans i [])) where
-      by_row :
-          (c : Levels) (sups : List (List ℕ)) → Scanned c n bars prices sups scans → (z : Zone) → get_elem? (overlap_zones c) i ≡ some z
-          → ZoneScan c (overlap_zones c) z scan
-      by_row c sups s z e = subst (ZoneScan c (overlap_zones c) z) (sym read) (s.scans.are i z e)
+    module _ (d : Scan) (more : i < length scans) where
+      abbrev s : Scan
+      s = get_or scans i d
+
+      -- the zone at place i
+      its : (z : Zone) (zs : List Zone) → drop i (overlap_zones c) ≡ z ∷ zs → ZoneScan c z s × (drop (i + 1) (overlap_zones c) ≡ zs)
+      its z zs e =
+          let (first, behind) = front i (overlap_zones c) z zs (omega (arith, many)) e in
+          (subst (λ (x : Zone). ZoneScan c x s) first (scan-at c all i z d more), behind)
 
       -- a zone of another superior
-      pub taken-other : (scan.superior ≡ h → ⊥) → TakesBlock h n bars prices scans from k i out
-      taken-other other =
-          done (λ c sups z rest later s b.
-          let there = front i (overlap_zones c) z (rest ++ later) b.stand in
-          other (sym (by_row c sups s z there.0).own ∙ all-at 0 z b.owned refl))
+      pub zones-other :
+          (s.superior ≡ h → ⊥) → (own later : List Zone) → Block c h from own later
+          → (bars ≡ foldl insert_bar [] (zone_bars own)) × (drop i (overlap_zones c) ≡ later)
+      zones-other other = done i (λ z rest later b. other ((its z (rest ++ later) b.stand).0.own ∙ all-at 0 z b.owned refl)) refl
 
       -- a zone of this one, whose bars are put in
-      module _ (more : i < n.zones) (mine : scan.superior ≡ h) (r : ℕ) (out' : List ℕ) (put : PutsPairs n.bigs bars prices scan k out r out') where
-        own-left-next :
-            (c : Levels) (sups : List (List ℕ)) (own later : List Zone) → Scanned c n bars prices sups scans → OwnLeft c h own later out k i
-            → OwnLeft c h own later out' r (i + 1)
-        own-left-next c sups own later s l = go l.rest l.block l.bars
-          where
-            go :
-                (rest : List Zone) → Block c h i rest later
-                → foldl insert_bar (take k out) (each (scanned c (overlap_zones c)) rest) ≡ foldl insert_bar [] (each (scanned c (overlap_zones c)) own)
-                → OwnLeft c h own later out' r (i + 1)
-            go [] b e =
-                let z = lt_at (overlap_zones c) i (omega (arith, s.scans.count)) in
-                let same : i + 0 ≡ i = omega arith in
-                let first = (rw same at (at_drop i 0 (overlap_zones c))) ∙ z.1 in
-                let up = all-at 0 z.0 (subst (All (λ (y : Zone). h < y.sup_idx)) (sym b.stand) b.above) first in
-                let named = (by_row c sups s z.0 z.1).own in
-                absurd (omega arith)
-            go (z ∷ rest) b e =
-                let behind = each (scanned c (overlap_zones c)) rest in
-                let there = front i (overlap_zones c) z (rest ++ later) b.stand in
-                let its = by_row c sups s z there.0 in
-                let met = put c _ s.bigs its.ends ∙ ap (foldl insert_bar (take k out)) (sym (scanned-is c (overlap_zones c) z scan its)) in
-                record {
-                  rest = rest;
-                  block = record { stand = there.1; owned = all_right (z ∷ []) rest b.owned; above = b.above };
-                  bars = rw (met, ← foldl-append insert_bar _ _ behind) e;
-                }
-
-        pub taken_next : r ≤ 257 → length out' ≡ 257 → ZonesSoFar h scans n from bars prices out' r (i + 1)
-        taken_next low wide =
-            record {
-              wide = wide;
-              low = low;
-              among =
-                  λ c sups s a.
-                  subst (RisingAmong (end_bars c)) (sym (put c (leb scan.limit) s.bigs (λ b l. refl)))
-                  (among_more (end_bars c) (take k out) _ (so_far.among c sups s a) (pairs_end c (leb scan.limit) scan.direction scan.from));
-              left = λ c sups own later s b. own-left-next c sups own later s (so_far.left c sups own later s b);
-            }
+      pub zones-next : s.superior ≡ h → (bars' : List ℕ) → bars' ≡ foldl insert_bar bars (pairs_from c s s.from) → ZonesSoFar from bars' (i + 1)
+      zones-next mine bars' put =
+          record {
+            among = rw put (among_more (end_bars c) bars (pairs_from c s s.from) so_far.among (pairs_end c s s.from));
+            left = λ own later b. let l = so_far.left own later b in go own later l.rest l.block l.put;
+          }
+        where
+          go :
+              (own later rest : List Zone) → Block c h i rest later → foldl insert_bar bars (zone_bars rest) ≡ foldl insert_bar [] (zone_bars own)
+              → OwnLeft own later bars' (i + 1)
+          go own [] [] b e = absurd (omega (arith, many, length-drop i (overlap_zones c), ap (λ (l : List Zone). length l) b.stand))
+          go own (z ∷ later) [] b e = let named = (its z later b.stand).0.own in let above = all-at 0 z b.above refl in absurd (omega arith)
+          go own later (z ∷ rest) b e =
+              let (scan, behind) = its z (rest ++ later) b.stand in
+              record {
+                rest = rest;
+                block = record { stand = behind; owned = all_right (z ∷ []) rest b.owned; above = b.above };
+                put = rw (put, ← scanned-is c z s scan, ← foldl-append insert_bar) e;
+              }

@@ -18,7 +18,6 @@ use Rattle.rules.specs.Zones.{opposing_of, zones_of, zones_from, overlap_zones}
 use Rattle.rules.specs.Marks.{scanned, insert_bar, scanned_bars}
 use Rattle.laws.proofs.Lists.{All, nil, cons, all_map, all_append, all-cond, all-image}
 use Rattle.laws.proofs.Runs.{zone_of, runs_split}
-use Rattle.levels.proofs.Read.{no_triple}
 use Rattle.mark_superiors.specs.Superiors.{Block}
 
 -- ---- superiors in order
@@ -56,6 +55,9 @@ module _ (h : ℕ) where
   own-all (cons {x = z} {xs = zs} e a) b = rw (eq-eqb z.sup_idx h e, own-all a b)
 
 -- ---- the superiors from i on
+
+abbrev pub no_triple : Triple
+no_triple = record { direction = 0; first = 0; last = 0 }
 
 -- their zones are those from place `at` on
 pub record RestZones (c : Levels) (i at : ℕ) : Type 0 where

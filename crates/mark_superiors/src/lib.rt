@@ -1,119 +1,102 @@
 // The rows of the superiors for 3+N marks: all pairs that the scans of a superior's zones meet, hit or not, made unique by bar, sorted and
-// numbered. Bigs, superiors and scans are lent as tables.
+// numbered.
 
 #![tactic(auto)]
 
-ghost use Rattle.std.specs.Prelude.{◌≡◌, List, [], ℕ, ◌≤◌, length, take};
+ghost use Rattle.std.specs.Prelude.{◌≡◌, List, [], ◌≤◌, ◌<◌, length, drop};
+ghost use mathlib.Core.List.{foldl};
+ghost use Rattle.chart.specs.declared.Zone.{Zone};
+ghost use Rattle.rows.specs.Rows.{rows_in};
+ghost use Rattle.rules.specs.Lists.{each};
 ghost use Rattle.rules.specs.Records.{Levels};
-ghost use Rattle.laws.specs.Lists.{end_bars};
-ghost use Rattle.tables.specs.Tables.{Bigs, Fits};
-ghost use Rattle.mark_scan.specs.Scan.{Scanned};
-ghost use Rattle.mark_rows.specs.Rows.{Room, Grown, KeepsEnds};
-ghost use Rattle.mark_superiors.specs.Superiors.{RisingAmong, PutsPairs, TakesBlock, NumbersSuperiors};
+ghost use Rattle.rules.specs.Zones.{overlap_zones};
+ghost use Rattle.rules.specs.Marks.{scanned, superiors_numbered, insert_bar, push_3n};
+ghost use Rattle.laws.specs.Lists.{Rising, end_bars};
+ghost use Rattle.tables.specs.Tables.{bigs_of};
+ghost use Rattle.mark_scan.specs.Scan.{pairs_from, Scanned};
+ghost use Rattle.mark_hits.specs.Quotes.{quotes_of};
+ghost use Rattle.mark_superiors.specs.Superiors.{RisingAmong, Block, ScansOf};
 
-use mark_scan::{Pair, Scan};
-use tables::Counts;
+use chart::{NMark, ThirdMark};
+use mark_hits::Quotes;
+use mark_scan::Scan;
+use rows::Rows;
+use tables::{Big, Superior};
 
-// ---- bars
-
-// The bars of a scan's pairs, put into k rising bars. Those of a scan mostly rise, so the search for a bar's place starts behind the bar
-// before it.
-fn zone_bars(
-    bars: &[[u16; 6]; 256],
-    prices: &[[f64; 3]; 256],
-    m: usize,
-    scan: Scan,
-    out: &mut [u32],
-    k: usize,
-) -> usize
-    requires m_bound { (m ≤ 256) × (length out.old ≡ 257) × (k ≤ 257) }
-    requires bigs { (c : Levels) × Bigs c m bars.now prices.now × RisingAmong (end_bars c) (take k out.old) }
-    ensures upper_bound { (result ≤ 257) × (length out.new ≡ 257) }
-    ensures puts_pairs { PutsPairs m bars.now prices.now scan k out.old result out.new }
+// Puts a bar into rising bars, in which each stands once; the place behind it. Most bars of a scan are there already, each behind the one
+// before it, so it is looked for at place `near` first.
+fn insert_near(bars: &mut Rows<u16, 257>, near: usize, bar: u16) -> usize
+    requires rising { Rising (rows_in bars.old) }
+    requires room { bars.old.count < 257 }
+    ensures { rows_in bars.new ≡ insert_bar (rows_in bars.old) bar }
 {
-    let mut count = k;
-    let mut hint = 0usize;
-    let mut at = scan.from as usize;
-    while at < m {
-        let pair = mark_scan::next_pair(bars, prices, m, scan.direction, scan.limit, at);
-        let Pair::At(next, bar) = pair else {
-            return count;
-        };
-        let put = mark_rows::insert_bar(out, count, hint, bar as u32);
-        count = put.count;
-        hint = put.next;
-        at = next;
+    if near < bars.count as usize && bars.rows[near] == bar {
+        return near + 1;
     }
-    count
+    mark_rows::insert_bar(bars, bar);
+    bars.listed().partition_point(|b| *b <= bar)
 }
 
-// The bars of a superior's zones: how many, and the place where the zones of the next superior begin.
-#[derive(Clone, Copy)]
-struct OwnBars {
-    count: usize,
-    next: usize,
+// The bars of a scan's pairs, put into rising bars.
+fn zone_bars(bigs: &[Big], scan: &Scan, bars: &mut Rows<u16, 257>)
+    requires few { length bigs.now ≤ 256 }
+    requires among { (c : Levels) × (bigs.now ≡ bigs_of c) × RisingAmong (end_bars c) (rows_in bars.old) }
+    ensures { (c : Levels) → bigs.now ≡ bigs_of c
+        → rows_in bars.new ≡ foldl insert_bar (rows_in bars.old) (pairs_from c scan.now scan.now.from) }
+{
+    let mut at = scan.from;
+    let mut near = 0;
+    // a pair says where the search for the next begins
+    while let Some(pair) = mark_scan::next_pair(bigs, scan, at) {
+        near = insert_near(bars, near, pair.bar);
+        at = pair.next;
+    }
 }
 
-// The bars of all pairs that the scans of superior h's zones meet, unique and sorted, in the first places of the lent bars. Zones stand in
-// the order of their superiors, so its own are those from place `from` on until one is another's.
+// The bars of all pairs that the scans of superior h's zones meet, unique and sorted; the place behind its scans. Scans stand in the order of
+// their superiors, so its own are those from place `from` on until one is another's.
 fn superior_bars(
-    h: u32,
-    scans: &[[u32; 4]; 256],
-    counts: Counts,
+    bigs: &[Big],
+    scans: &[Scan],
+    h: usize,
     from: usize,
-    bars: &[[u16; 6]; 256],
-    prices: &[[f64; 3]; 256],
-    out: &mut [u32],
-) -> OwnBars
-    requires fits { Fits counts × (length out.old ≡ 257) }
-    requires by_index { (c : Levels) × (sups : List (List ℕ)) × Scanned c counts bars.now prices.now sups scans.now × RisingAmong (end_bars c) [] }
-    ensures count_bound { (result.count ≤ 257) × (length out.new ≡ 257) }
-    ensures takes_block { TakesBlock h counts bars.now prices.now scans.now from result.count result.next out.new }
+    bars: &mut Rows<u16, 257>,
+) -> usize
+    requires few { length bigs.now ≤ 256 }
+    requires of_levels { (c : Levels) × (bigs.now ≡ bigs_of c) × Scanned c scans.now }
+    ensures { (c : Levels) (own later : List Zone) → bigs.now ≡ bigs_of c → Scanned c scans.now → Block c h from own later
+        → (rows_in bars.new ≡ foldl insert_bar [] (each (scanned c (overlap_zones c)) own)) × (drop result (overlap_zones c) ≡ later) }
 {
-    let mut count = 0usize;
-    let mut i = from;
-    while i < counts.zones {
-        let scan = mark_scan::scan_at(scans, i);
-        if scan.superior != h {
-            return OwnBars { count, next: i };
+    bars.count = 0;
+    for i in from..scans.len() {
+        if scans[i].superior as usize != h {
+            return i;
         }
-        count = zone_bars(bars, prices, counts.bigs, scan, out, count);
-        i += 1;
+        zone_bars(bigs, &scans[i], bars);
     }
-    OwnBars { count, next: i }
+    scans.len()
 }
 
-// ---- rows
-
-// The rows of the superiors in ascending order, behind the `zeros` rows of order 0; how many rows there are then.
+// The rows of the superiors in ascending order, put among those of the order-0 marks, which are the third marks.
 pub fn superior_rows(
-    sups: &[[u16; 5]; 256],
-    scans: &[[u32; 4]; 256],
-    bars: &[[u16; 6]; 256],
-    prices: &[[f64; 3]; 256],
-    counts: Counts,
-    zeros: usize,
-    keys: &mut [u32],
-    orders: &mut [u32],
-) -> usize
-    requires fits { Fits counts × (513 ≤ length keys.old) × (513 ≤ length orders.old) }
-    requires scanned { (c : Levels) × Scanned c counts bars.now prices.now sups.now scans.now × Room (end_bars c) keys.old zeros }
-    ensures numbers_superiors { NumbersSuperiors counts bars.now prices.now sups.now scans.now
-        zeros keys.old orders.old result keys.new orders.new }
-    ensures keeps_ends { KeepsEnds (λ (c : Levels). Scanned c counts bars.now prices.now sups.now scans.now)
-        keys.old zeros keys.new result }
-    ensures grown { Grown zeros keys.old orders.old result keys.new orders.new }
+    bigs: &[Big],
+    superiors: &[Superior],
+    scans: &[Scan],
+    thirds: &[ThirdMark],
+    quotes: &Quotes,
+    marks: &mut Rows<NMark, 512>,
+)
+    requires few { length bigs.now ≤ 256 }
+    requires room { (c : Levels) × ScansOf c bigs.now superiors.now scans.now × (length (foldl push_3n (rows_in marks.old)
+        (superiors_numbered c (quotes_of quotes.now) (overlap_zones c) thirds.now 0 c.superiors)) ≤ 512) }
+    ensures { (c : Levels) → ScansOf c bigs.now superiors.now scans.now → rows_in marks.new ≡ foldl push_3n (rows_in marks.old)
+        (superiors_numbered c (quotes_of quotes.now) (overlap_zones c) thirds.now 0 c.superiors) }
 {
-    let mut out = [0u32; 257];
-    let mut count = zeros;
-    let mut at = 0usize;
-    let mut i = 0usize;
-    while i < counts.superiors {
-        let taken = superior_bars(i as u32, scans, counts, at, bars, prices, &mut out);
-        at = taken.next;
-        let buy = sups[i][0] == 1;
-        count = mark_rows::number_bars(&out, taken.count, buy, zeros, keys, orders, count);
-        i += 1;
+    let mut bars = Rows::new(0);
+    let mut at = 0;
+    for (h, s) in superiors.iter().enumerate() {
+        at = superior_bars(bigs, scans, h, at, &mut bars);
+        let buy = s.direction == 1;
+        mark_rows::number_bars(bars.listed(), buy, thirds, quotes, marks);
     }
-    count
 }

@@ -1,2 +1,1 @@
--- Laws that the proofs cite. Each function has its proof in the folder of its name.
 pub mod Lines

@@ -2,85 +2,61 @@
 
 #![tactic(auto)]
 
-ghost use Rattle.std.specs.Prelude.{◌≡◌, false, not, cond, ◌+◌, ◌≤◌, length, take};
+ghost use Rattle.std.specs.Prelude.{◌≡◌, false, not, ◌++◌, ◌+◌, ◌≤◌, length};
 ghost use Rattle.chart.specs.declared.NMark.{NMark};
+ghost use Rattle.chart.specs.Numbers.{number_of};
 ghost use Rattle.price.specs.Price.{is_price, Price};
+ghost use Rattle.rows.specs.Rows.{rows_in};
 ghost use Rattle.rules.specs.Lists.{any};
-ghost use Rattle.rules.specs.Text.{ascii, mark_line, marks_text, refused_line};
-ghost use Rattle.text.specs.Puts.{Puts};
+ghost use Rattle.rules.specs.Text.{mark_line, marks_text, refused_line};
 
-use chart::NMark;
-
-// Some text: its first `len` bytes.
-#[derive(Clone, Copy)]
-pub struct Text {
-    pub bytes: [u8; 24576],
-    pub len: usize,
-}
-
-// ---- Each of these puts some bytes into a lent slice from place `at` on, and gives the place behind them.
-
-// A side and a space.
-fn put_side(out: &mut [u8], at: usize, buy: bool) -> usize
-    requires { at + 5 ≤ length out.old }
-    ensures puts { Puts out.old at (cond buy (ascii "buy ") (ascii "sell ")) out.new result }
-    ensures upper_bound { result ≤ at + 5 }
-{
-    if buy {
-        return text::put_word(out, at, b"buy ");
-    }
-    text::put_word(out, at, b"sell ")
-}
+use chart::{NMark, RefusedAt};
+use text::{Text, put_decimal, put_hex, put_word};
 
 // A mark's line, which has at most 39 bytes.
-fn put_line(out: &mut [u8], at: usize, m: NMark) -> usize
+#[tactic(auto, using(crate::proofs::Lines::digits_of_u16, crate::proofs::Lines::digits_of_u32))]
+fn put_line(text: &mut Text, m: NMark)
     requires price { Price m.price }
-    requires at_in_bounds { at + 39 ≤ length out.old }
-    ensures puts { Puts out.old at (mark_line m) out.new result }
-    ensures upper_bound { result ≤ at + 39 }
+    requires room { length (rows_in text.old) + 39 ≤ 24576 }
+    ensures puts { rows_in text.new ≡ rows_in text.old ++ mark_line m }
+    ensures upper_bound { length (rows_in text.new) ≤ length (rows_in text.old) + 39 }
 {
-    let mut end = put_side(out, at, m.is_buy);
-    end = text::put_number(out, end, m.order as u64, b' ');
-    end = text::put_number(out, end, m.bar_index as u64, b' ');
-    end = text::put_hex(out, end, 16, price::bits_of_price(m.price));
-    text::put(out, end, b'\n')
+    let side: &[u8] = if m.is_buy { b"buy " } else { b"sell " };
+    put_word(text, side);
+    put_decimal(text, u64::from(m.order));
+    put_word(text, b" ");
+    put_decimal(text, u64::from(m.bar_index));
+    put_word(text, b" ");
+    put_hex(text, 16, price::bits_of_price(m.price));
+    put_word(text, b"\n");
 }
 
 // ---- what is printed
 
-// A header, then a line for each of the first n marks.
-pub fn marks_text(rows: [NMark; 512], n: u16) -> Text
-    requires n_bound { n ≤ 512 }
-    requires rows_value { any (λ (m : NMark). not (is_price m.price)) (take n rows) ≡ false }
-    ensures bytes_value { take result.len result.bytes ≡ marks_text (take n rows) }
-    ensures len_bound { result.len ≤ 24576 }
+// A header, then a line for each mark.
+pub fn marks_text(rows: &[NMark]) -> Text
+    requires few { length rows.now ≤ 512 }
+    requires rows_value { any (λ (m : NMark). not (is_price m.price)) rows.now ≡ false }
+    ensures { rows_in result ≡ marks_text rows.now }
 {
-    let mut bytes = [0u8; 24576];
-    let mut end = text::put_word(&mut bytes, 0, b"side order bar price\n");
-    let mut i = 0u16;
-    while i < n {
-        let m = rows[i as usize];
-        end = put_line(&mut bytes, end, m);
-        i += 1;
+    let mut text = Text::new(0);
+    put_word(&mut text, b"side order bar price\n");
+    for m in rows {
+        put_line(&mut text, *m);
     }
-    Text {
-        bytes: bytes,
-        len: end,
-    }
+    text
 }
 
 // The line of a refusal: its number, and the place of the record that is refused.
-pub fn refused_line(number: u8, place: usize) -> Text
-    ensures bytes_value { take result.len result.bytes ≡ refused_line number place }
-    ensures len_bound { result.len ≤ 24576 }
+#[tactic(auto, using(crate::proofs::Lines::digits_of_u8, crate::proofs::Lines::digits_of_u64))]
+pub fn refused_line(refused: RefusedAt) -> Text
+    ensures { rows_in result ≡ refused_line (number_of refused.refusal) refused.place }
 {
-    let mut bytes = [0u8; 24576];
-    let mut end = text::put_word(&mut bytes, 0, b"refused ");
-    end = text::put_decimal(&mut bytes, end, number as u64);
-    end = text::put_word(&mut bytes, end, b" at ");
-    end = text::put_number(&mut bytes, end, place as u64, b'\n');
-    Text {
-        bytes: bytes,
-        len: end,
-    }
+    let mut text = Text::new(0);
+    put_word(&mut text, b"refused ");
+    put_decimal(&mut text, u64::from(refused.refusal.number()));
+    put_word(&mut text, b" at ");
+    put_decimal(&mut text, refused.place as u64);
+    put_word(&mut text, b"\n");
+    text
 }

@@ -1,2 +1,2 @@
-pub mod Marked
-pub mod HitMarks
+pub mod Marks
+pub mod Zones

@@ -1,218 +1,159 @@
-// Third marks gathered into lent rows: of zones, then of anchors. A mark's key has its bar and side, its row its price and its ground's
-// price.
+// Third marks: of zones, then of anchors.
 
 #![tactic(auto)]
 
-ghost use Rattle.std.specs.Prelude.{◌≡◌, cond, ℕ, ◌≤◌, ◌<◌, length, take, eqb};
-ghost use Rattle.rules.specs.Lists.{any};
-ghost use Rattle.rules.specs.Records.{is_up};
-ghost use Rattle.tables.specs.Tables.{Fits};
-ghost use Rattle.mark_hits.specs.Found.{LentPrice};
-ghost use Rattle.mark_thirds.specs.Third.{
-  Places,
-  SamePlaces,
-  OneMore,
-  OnBar,
-  PutsHit,
-  ZoneHit,
-  AnchorHit,
-  AnchorMarks,
-  GathersThirds,
-};
+ghost use Rattle.std.specs.Prelude.{◌≡◌, ◌≤◌, ◌<◌, ◌+◌, [], ◌∷◌, length};
+ghost use mathlib.Core.List.{foldl};
+ghost use Rattle.rows.specs.Rows.{rows_in};
+ghost use Rattle.rules.specs.Lists.{any, each};
+ghost use Rattle.rules.specs.Records.{Levels};
+ghost use Rattle.rules.specs.Marks.{add_third, zone_third, third_marks};
+ghost use Rattle.rules.specs.Zones.{overlap_zones};
+ghost use Rattle.tables.specs.Tables.{bigs_of};
+ghost use Rattle.mark_scan.specs.Scan.{TablesOf, ZoneScans, Scanned};
+ghost use Rattle.mark_hits.specs.Quotes.{quotes_of};
+ghost use Rattle.mark_hits.specs.Anchors.{anchors_in};
+ghost use Rattle.mark_thirds.specs.Third.{same_key, listed, first_mark, edge, zone_mark, anchor_mark};
 
-use mark_hits::{End, Hit, Price, Side};
-use mark_scan::{Pair, Scan};
-use tables::Counts;
+use chart::{Ground, ThirdMark, Zone};
+use mark_hits::{Anchor, Quotes, Side};
+use mark_scan::Scan;
+use rows::Rows;
+use tables::{Big, Superior};
 
-// ---- marks
+// ---- one mark
 
-// Whether a key is among the first n. Every one is looked at, with no test that ends the loop, so that several can be taken at once.
-fn seen(keys: &[u32], n: usize, key: u32) -> bool
-    requires { n ≤ length keys.now }
-    ensures { result ≡ any (λ (k : ℕ). eqb k key) (take n keys.now) }
+// The mark of a side at a bar, over a ground of price p, where the bar is a hit.
+#[tactic(auto, using(crate::proofs::Marks::hit_mark))]
+fn mark_at(quotes: &Quotes, buy: bool, ground: Ground, p: f64, bar: u16) -> Option<ThirdMark>
+    ensures { listed result ≡ first_mark (quotes_of quotes.now) buy ground p (bar ∷ []) }
 {
-    let mut met = false;
-    let mut i = 0usize;
-    while i < n {
-        met = met | (keys[i] == key);
-        i += 1;
-    }
-    met
+    let price = mark_hits::hit_at(quotes, buy, p, bar)?;
+    Some(ThirdMark {
+        bar_index: bar,
+        is_buy: buy,
+        price,
+        ground,
+    })
 }
 
-// Puts the mark of a hit of a side, over the ground's price p, behind the first `count`, if its key is not among theirs; how many there are
-// then. So the first of the marks of a bar and a side is kept, with its ground. Where there is no hit, the marks stay.
-fn put_hit(
-    keys: &mut [u32],
-    marks: &mut [[f64; 2]; 512],
-    count: usize,
-    hit: Hit,
-    buy: bool,
-    p: f64,
-) -> usize
-    requires { (count < 512) × Places keys.old marks.old × OnBar hit }
-    ensures one_more { OneMore count result × SamePlaces keys.old keys.new marks.new }
-    ensures puts_hit { PutsHit count hit buy p keys.old marks.old result keys.new marks.new }
+// Whether one of some marks has the bar and the side of this one.
+fn is_met(marks: &[ThirdMark], mark: &ThirdMark) -> bool
+    ensures { result ≡ any (same_key mark.now) marks.now }
 {
-    let Hit::At(bar, x) = hit else {
-        return count;
-    };
-    let key = mark_rows::key_of(bar as u16, buy);
-    if seen(keys, count, key) {
-        return count;
+    marks.iter().any(|m| m.bar_index == mark.bar_index && m.is_buy == mark.is_buy)
+}
+
+// Puts a mark behind the others, if none of them has its bar and side. So the first of these is kept, with its ground.
+#[tactic(auto, unfolding(rules::specs::Marks::add_third))]
+fn add(marks: &mut Rows<ThirdMark, 512>, mark: ThirdMark)
+    requires { marks.old.count < 512 }
+    ensures one_more { marks.new.count ≤ marks.old.count + 1 }
+    ensures adds { rows_in marks.new ≡ add_third (rows_in marks.old) mark }
+{
+    if !is_met(marks.listed(), &mark) {
+        marks.push(mark);
     }
-    keys[count] = key;
-    marks[count] = [x, p];
-    count + 1
 }
 
 // ---- zones
 
-// The first hit of a zone's scan.
-fn zone_hit(
-    bars: &[[u16; 6]; 256],
-    prices: &[[f64; 3]; 256],
-    m: usize,
-    scan: Scan,
-    p: f64,
-    highs: &[f64],
-    lows: &[f64],
-) -> Hit
-    requires { m ≤ 256 }
-    ensures lent_price { LentPrice (record { highs = highs.now; lows = lows.now }) (is_up scan.direction) result }
-    ensures zone_hit { ZoneHit m bars.now prices.now scan p (record { highs = highs.now; lows = lows.now }) result }
+// The edge of a zone that its mark beats: zg for a buy, zd for a sell.
+fn edge_of(buy: bool, zone: &Zone) -> f64
+    ensures { result ≡ edge buy zone.now }
 {
-    let buy = scan.direction == 1;
-    let mut at = scan.from as usize;
-    while at < m {
-        let pair = mark_scan::next_pair(bars, prices, m, scan.direction, scan.limit, at);
-        let Pair::At(next, bar) = pair else {
-            return Hit::Nothing;
-        };
-        let hit = mark_hits::hit_at(highs, lows, buy, p, bar);
-        if mark_hits::is_hit(hit) {
-            return hit;
-        }
-        at = next;
-    }
-    Hit::Nothing
+    if buy { zone.zg } else { zone.zd }
 }
 
-// The edge that a zone's mark beats: zg for a buy, zd for a sell.
-fn edge_of(direction: u32, zd: f64, zg: f64) -> f64
-    ensures { result ≡ cond (is_up direction) zg zd }
+// The mark of a zone: at the first hit of its scan, over its edge.
+fn zone_mark(bigs: &[Big], quotes: &Quotes, zone: &Zone, scan: &Scan) -> Option<ThirdMark>
+    ensures { (c : Levels) → bigs.now ≡ bigs_of c → listed result ≡ zone_mark c (quotes_of quotes.now) zone.now scan.now }
 {
-    if direction == 1 {
-        return zg;
+    let buy = scan.direction == 1;
+    let edge = edge_of(buy, zone);
+    let mut from = scan.from;
+    // a while, since only the next pair tells where the one after it is looked for
+    while let Some(pair) = mark_scan::next_pair(bigs, scan, from) {
+        let mark = mark_at(quotes, buy, Ground::Zone(edge), edge, pair.bar);
+        if mark.is_some() {
+            return mark;
+        }
+        from = pair.next;
     }
-    zd
+    None
 }
 
 // ---- anchors
 
-// The first hit among the bigs of the other direction from place `from` on that end behind the anchor's bar.
-fn anchor_hit(
-    bars: &[[u16; 6]; 256],
-    prices: &[[f64; 3]; 256],
-    side: Side,
-    bar: u16,
-    from: usize,
-    p: f64,
-    highs: &[f64],
-    lows: &[f64],
-) -> Hit
-    requires { side.bigs ≤ 256 }
-    ensures lent_price { LentPrice (record { highs = highs.now; lows = lows.now }) side.buy result }
-    ensures anchor_hit { AnchorHit side bars.now prices.now bar from p
-        (record { highs = highs.now; lows = lows.now }) result }
+// The mark of an anchor of a side: at the first hit among the bigs of the other direction that end behind it, over its price C.
+fn anchor_mark(bigs: &[Big], quotes: &Quotes, buy: bool, anchor: &Anchor) -> Option<ThirdMark>
+    requires { anchor.now.from ≤ length bigs.now }
+    ensures { listed result ≡ anchor_mark bigs.now (quotes_of quotes.now) buy anchor.now }
 {
-    let mut k = from;
-    while k < side.bigs {
-        let end = mark_hits::next_end(bars, prices, side.bigs, !side.buy, bar, k);
-        let End::At(next, at, price) = end else {
-            return Hit::Nothing;
-        };
-        let hit = mark_hits::hit_at(highs, lows, side.buy, p, at as usize);
-        if mark_hits::is_hit(hit) {
-            return hit;
-        }
-        k = next;
-    }
-    Hit::Nothing
-}
-
-// The marks of the anchors of a side behind the first `found`, which are of zones; how many there are then.
-fn anchor_marks(
-    bars: &[[u16; 6]; 256],
-    prices: &[[f64; 3]; 256],
-    side: Side,
-    highs: &[f64],
-    lows: &[f64],
-    found: usize,
-    keys: &mut [u32],
-    marks: &mut [[f64; 2]; 512],
-) -> usize
-    requires found_bound { (found ≤ 256) × (side.anchors ≤ side.bigs) × (side.bigs ≤ 256) }
-    requires highs_len_bound { (length highs.now ≤ 0x1_0000) × (length lows.now ≤ 0x1_0000) × Places keys.old marks.old }
-    ensures lower_bound { (found ≤ result) × (result ≤ 512) × SamePlaces keys.old keys.new marks.new }
-    ensures anchor_marks { AnchorMarks side bars.now prices.now (record { highs = highs.now; lows = lows.now }) found
-        keys.old marks.old result keys.new marks.new }
-{
-    let mut anchors = [[0u16; 3]; 256];
-    let mut cs = [0.0; 256];
-    let n = mark_hits::anchors_of(bars, prices, side, &mut anchors, &mut cs);
-    let mut count = found;
-    let mut i = 0usize;
-    while i < n {
-        let anchor = mark_hits::anchor_at(&anchors, &cs, i);
-        i += 1;
-        let price = anchor.price;
-        let Price::At(p) = price else {
+    let p = anchor.price?;
+    for big in &bigs[anchor.from..] {
+        let Some(end) = mark_hits::end_behind(big, !buy, anchor.bar) else {
             continue;
         };
-        let hit = anchor_hit(bars, prices, side, anchor.bar, anchor.from, p, highs, lows);
-        count = put_hit(keys, marks, count, hit, side.buy, p);
+        let mark = mark_at(quotes, buy, Ground::Anchor(p), p, end.bar);
+        if mark.is_some() {
+            return mark;
+        }
     }
-    count
+    None
 }
 
-// ---- zones and anchors
+// ---- all
 
-// How many marks there are of zones, and in all.
-#[derive(Clone, Copy)]
-pub struct Thirds {
-    pub zoned: usize,
-    pub all: usize,
-}
-
-// The third marks of a chart by its tables and the scans of its zones: those of the zones, then those of the anchors.
-pub fn thirds_of(
-    bars: &[[u16; 6]; 256],
-    prices: &[[f64; 3]; 256],
-    sups: &[[u16; 5]; 256],
-    scans: &[[u32; 4]; 256],
-    zp: &[[f64; 4]; 256],
-    counts: Counts,
-    highs: &[f64],
-    lows: &[f64],
-    keys: &mut [u32],
-    marks: &mut [[f64; 2]; 512],
-) -> Thirds
-    requires { Fits counts × (length highs.now ≤ 0x1_0000) × (length lows.now ≤ 0x1_0000) × Places keys.old marks.old }
-    ensures all_bound { (result.all ≤ 512) × SamePlaces keys.old keys.new marks.new }
-    ensures gathers_thirds { GathersThirds counts bars.now prices.now sups.now scans.now zp.now
-        (record { highs = highs.now; lows = lows.now }) result keys.new marks.new }
+// The marks of zones with these scans, behind those that are there.
+fn zone_marks(
+    bigs: &[Big],
+    zones: &[Zone],
+    scans: &[Scan],
+    quotes: &Quotes,
+    marks: &mut Rows<ThirdMark, 512>,
+)
+    requires { marks.old.count + length zones.now ≤ 512 }
+    ensures few { marks.new.count ≤ marks.old.count + length zones.now }
+    ensures marks { (c : Levels) → bigs.now ≡ bigs_of c → ZoneScans c zones.now scans.now
+        → rows_in marks.new
+        ≡ foldl add_third (rows_in marks.old) (each (zone_third c (quotes_of quotes.now) (overlap_zones c)) zones.now) }
 {
-    let mut zoned = 0usize;
-    let mut i = 0usize;
-    while i < counts.zones {
-        let scan = mark_scan::scan_at(scans, i);
-        let edge = edge_of(scan.direction, zp[i][0], zp[i][1]);
-        let hit = zone_hit(bars, prices, counts.bigs, scan, edge, highs, lows);
-        zoned = put_hit(keys, marks, zoned, hit, scan.direction == 1, edge);
-        i += 1;
+    for (zone, scan) in zones.iter().zip(scans) {
+        if let Some(mark) = zone_mark(bigs, quotes, zone, scan) {
+            add(marks, mark);
+        }
     }
-    let side = mark_hits::side_of(sups, counts);
-    let all = anchor_marks(bars, prices, side, highs, lows, zoned, keys, marks);
-    Thirds { zoned, all }
+}
+
+// The marks of the anchors of a side, behind those that are there.
+fn anchor_marks(bigs: &[Big], side: Side, quotes: &Quotes, marks: &mut Rows<ThirdMark, 512>)
+    requires { (length bigs.now ≤ 256) × (marks.old.count ≤ 256) }
+    ensures { rows_in marks.new
+        ≡ foldl add_third (rows_in marks.old) (each (anchor_mark bigs.now (quotes_of quotes.now) side.buy) (anchors_in side bigs.now)) }
+{
+    let anchors = mark_hits::anchors_of(bigs, side);
+    for anchor in anchors.listed() {
+        if let Some(mark) = anchor_mark(bigs, quotes, side.buy, anchor) {
+            add(marks, mark);
+        }
+    }
+}
+
+// The third marks of a chart, by its bigs, superiors and zones and the zones' scans.
+pub fn thirds_of(
+    bigs: &[Big],
+    superiors: &[Superior],
+    zones: &[Zone],
+    scans: &[Scan],
+    quotes: &Quotes,
+    marks: &mut Rows<ThirdMark, 512>,
+)
+    requires { (length bigs.now ≤ 256) × (length zones.now ≤ 256) }
+    ensures { (c : Levels) → TablesOf c bigs.now superiors.now zones.now → Scanned c scans.now
+        → rows_in marks.new ≡ third_marks c (quotes_of quotes.now) }
+{
+    marks.count = 0;
+    zone_marks(bigs, zones, scans, quotes, marks);
+    anchor_marks(bigs, mark_hits::side_of(superiors), quotes, marks);
 }

@@ -4,38 +4,20 @@
 
 #![tactic(auto)]
 
-ghost use Rattle.std.specs.Prelude.{◌≤◌};
-
 use std::io;
 use std::io::Write;
-use std::rt::Files;
-
-// Writes the first n bytes.
-fn write<W: Write>(out: &mut W, bytes: [u8; 24576], n: usize) -> io::Result<()>
-    requires { n ≤ 24576 }
-{
-    out.write_all(&bytes[..n])
-}
-
-fn print_marks<W: Write>(out: &mut W, chart: &[u8], bars: &[u8]) -> io::Result<()> {
-    let text = marks_file::marks_of_files(chart, bars);
-    let bytes = text.bytes;
-    write(out, bytes, text.len)
-}
-
-// `bars.dat` is read unless the chart is refused.
-fn print_with_bars<R: Files + Print>(rt: &R, chart: &[u8]) -> io::Result<()> {
-    let mut out = io::writer(rt);
-    if marks_file::chart_refused(chart) {
-        return print_marks(&mut out, chart, b"");
-    }
-    let mut bars = files::bars_room();
-    let n = files::read_file(rt, b"bars.dat", &mut bars);
-    print_marks(&mut out, chart, &bars[..n])
-}
 
 fn main(rt: HostRuntime) -> io::Result<()> {
-    let mut chart = files::chart_room();
+    let mut chart = [0; files::CHART_ROOM];
     let n = files::read_file(&rt, b"chart.dat", &mut chart);
-    print_with_bars(&rt, &chart[..n])
+    let chart = &chart[..n];
+    let mut bars = [0; files::BARS_ROOM];
+    // `bars.dat` is read unless the chart is refused
+    let m = if marks_file::chart_refused(chart) {
+        0
+    } else {
+        files::read_file(&rt, b"bars.dat", &mut bars)
+    };
+    let text = marks_file::marks_of_files(chart, &bars[..m]);
+    io::writer(&rt).write_all(text.listed())
 }

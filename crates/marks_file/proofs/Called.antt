@@ -1,16 +1,26 @@
 -- What is printed of a chart, by the mark call's answer. Assumes nothing.
-use Prim.Native.Nat.{ℕ, ◌≤◌}
+use Prim.Native.Nat.{ℕ}
 use mathlib.Core.Path.{◌≡◌, sym, ap, ◌∙◌}
 use mathlib.Core.Bool.{Bool, true, false, not}
 use mathlib.Core.List.{List}
 use mathlib.Core.Option.{some}
-use lib.ListN.{length, take, get_elem?}
+use lib.ListN.{get_elem?}
 use lib.Ieee.{Float, nan}
 use borrow.Author.Tests.{not-false}
+use Rattle.std.specs.Prelude.{Ok, Err, MatchResult, IfOk}
+use Rattle.std.specs.declared.result.Result.{Result}
+use Rattle.std.specs.Result.{IsErrAnd}
+use Rattle.std.proofs.lemmas.Result.{err_from_is_err_and}
+use Rattle.chart.specs.declared.RefusedAt.{RefusedAt}
+use Rattle.marks_file.specs.Printed.{text_of}
 use Rattle.price.specs.Price.{is_price, all_prices}
 use Rattle.price.proofs.Lists.{price-at}
 use Rattle.chart.specs.declared.NMark.{NMark}
 use Rattle.chart.specs.declared.Chart.{Chart}
+use Rattle.chart.specs.declared.Refusal.{Refusal}
+use Rattle.chart.specs.Numbers.{number_of}
+use Rattle.rows.specs.declared.Rows.{Rows}
+use Rattle.rows.specs.Rows.{rows_in}
 use Rattle.rules.specs.Answer.{answered, rows_answer}
 use Rattle.rules.specs.Lists.{any}
 use Rattle.rules.specs.Records.{Levels, levels_of, Quotes}
@@ -21,7 +31,7 @@ use Rattle.rules.specs.Text.{marks_text, refused_line}
 use Rattle.rules.specs.Program.{marks_of}
 use Rattle.laws.proofs.Tests.{or_l, or_r, refuse_no, refuse-on}
 use Rattle.laws.proofs.Lists.{all_map, false-any, at_lt, at-getD}
-use Rattle.laws.proofs.Answers.{answered_refused, Rows, call-number, call_rows}
+use Rattle.laws.proofs.Answers.{answer-ok, on-good}
 use Rattle.laws.proofs.Quoted.{marks-quoted}
 
 -- ---- the price of every mark is a price: it is a lent one
@@ -43,25 +53,45 @@ marks_priced l q h =
 
 -- ---- the call's answer, on a chart that is not refused with 21
 
-module _ (c : Chart) (q : Quotes) (good : bad_chart c ≡ false) (number count : ℕ) (rows : List NMark) (e : rows_answer number count rows ≡ n_call c q) where
-  -- a refusal is printed with the place 0
-  pub call-refused : (number ≡ 0 → ⊥) → marks_of (levels_of c) q ≡ refused_line number 0
-  unfolding marks_of n_call
-  call-refused h =
-      let r = call-number c (λ (l : Levels). n_refusal l q) (λ (l : Levels). n_marks l q) number count rows e good in
-      rw (marks_of, answered_refused (n_refusal (levels_of c) q) number (n_marks (levels_of c) q) h (sym r))
-
-  found : number ≡ 0 → Rows count rows (n_refusal (levels_of c) q) (n_marks (levels_of c) q)
+module _ (c : Chart) (q : Quotes) (good : bad_chart c ≡ false) where
+  call : n_call c q ≡ answered (n_refusal (levels_of c) q) (n_marks (levels_of c) q)
   unfolding n_call
-  found z = call_rows c (λ (l : Levels). n_refusal l q) (λ (l : Levels). n_marks l q) number count rows e z
+  call = on-good c (λ (l : Levels). answered (n_refusal l q) (n_marks l q)) good
+
+  -- a refusal is printed with the place 0
+  pub call-refused : (x : Refusal) → rows_answer {A = NMark} {N = 512} (Err x) ≡ n_call c q → marks_of (levels_of c) q ≡ refused_line (number_of x) 0
+  unfolding marks_of
+  call-refused x e = rw (marks_of, ← (e ∙ call))
 
   -- marks have a line each
-  pub call_given : number ≡ 0 → marks_of (levels_of c) q ≡ marks_text (take count rows)
-  unfolding marks_of answered
-  call_given z = let r = found z in rw (marks_of, r.accepted, r.same)
+  pub call-given : (rows : Rows NMark 512) → rows_answer (Ok rows) ≡ n_call c q → marks_of (levels_of c) q ≡ marks_text (rows_in rows)
+  unfolding marks_of
+  call-given rows e = rw (marks_of, ← (e ∙ call))
 
-  pub rows_few : number ≡ 0 → count ≤ length rows
-  rows_few z = (found z).few
+  pub rows-priced : (rows : Rows NMark 512) → rows_answer (Ok rows) ≡ n_call c q → any (λ (m : NMark). not (is_price m.price)) (rows_in rows) ≡ false
+  rows-priced rows e =
+      let r = answer-ok rows_in (n_refusal (levels_of c) q) (n_marks (levels_of c) q) rows (e ∙ call) in
+      rw r.1 (marks_priced (levels_of c) q r.0)
 
-  pub rows-priced : number ≡ 0 → any (λ (m : NMark). not (is_price m.price)) (take count rows) ≡ false
-  rows-priced z = let r = found z in rw r.same (marks_priced (levels_of c) q r.accepted)
+  -- so of both
+  pub printed-of :
+      (o : Result (Rows NMark 512) Refusal) (r : Result (Rows NMark 512) RefusedAt) → rows_answer o ≡ n_call c q
+      → MatchResult o (λ x. r ≡ Ok x) (λ x. r ≡ Err (record { refusal = x; place = 0 })) → text_of r ≡ marks_of (levels_of c) q
+  printed-of (Ok rows) r e m = rw m (sym (call-given rows e))
+  printed-of (Err x) r e m = rw m (sym (call-refused x e))
+
+  pub priced-of :
+      (o : Result (Rows NMark 512) Refusal) (r : Result (Rows NMark 512) RefusedAt) → rows_answer o ≡ n_call c q
+      → MatchResult o (λ x. r ≡ Ok x) (λ x. r ≡ Err (record { refusal = x; place = 0 }))
+      → IfOk r (λ (marks : Rows NMark 512). any (λ (m : NMark). not (is_price m.price)) (rows_in marks) ≡ false)
+  priced-of (Ok rows) r e m = rw m (rows-priced rows e)
+  priced-of (Err x) r e m = rw m tt
+
+-- an error that a closure maps
+pub mapped :
+    (o : Result (Rows NMark 512) Refusal) (r : Result (Rows NMark 512) RefusedAt) (L : Refusal → RefusedAt → Type 0)
+    → ((x : Refusal) (y : RefusedAt) → L x y → y ≡ record { refusal = x; place = 0 })
+    → MatchResult o (λ x. r ≡ Ok x) (λ x. IsErrAnd r (λ y. L x y))
+    → MatchResult o (λ x. r ≡ Ok x) (λ x. r ≡ Err (record { refusal = x; place = 0 }))
+mapped (Ok rows) r L h m = m
+mapped (Err x) r L h m = let e = err_from_is_err_and r m in rw (e.1, h x e.0 e.2)

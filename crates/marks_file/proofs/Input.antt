@@ -8,7 +8,6 @@ use lib.ListN.{length, take}
 use lib.Seq.{take_all, length-take-le}
 use lib.Dec.{leb}
 use borrow.Author.Tests.{leb-true, leb-false}
-use Rattle.mark_text.specs.declared.Text.{Text}
 use Rattle.rules.specs.Answer.{AnswerBy, NumberAt, refused, given, is_refused}
 use Rattle.rules.specs.File.{Content}
 use Rattle.rules.specs.Program.{printed_bars, printed, chart_read, marks_output}
@@ -32,11 +31,9 @@ printed_decided (refused k) bars = refl
 printed_decided (given c) bars = ap (printed_bars c.levels) (bars_decided 2048 65536 bars (omega arith))
 
 -- For all files: what `marks_of_files` gives of their first bytes, by its contract, is what is due for all of them
-pub first_bytes :
-    (chart bars : List ℕ) (r : Text) → take r.len r.bytes ≡ marks_output (take 65537 chart) (take 65536 bars)
-    → take r.len r.bytes ≡ marks_output chart bars
+pub first_bytes : (chart bars text : List ℕ) → text ≡ marks_output (take 65537 chart) (take 65536 bars) → text ≡ marks_output chart bars
 unfolding marks_output
-first_bytes chart bars r e =
+first_bytes chart bars text e =
     e ∙ ap (λ (a : AnswerBy NumberAt Content). printed a (take 65536 bars)) (chart_decided chart) ∙ printed_decided (chart_read chart) bars
 
 -- where the chart is refused the bars don't matter: "unless that is refused"

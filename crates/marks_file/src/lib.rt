@@ -2,24 +2,32 @@
 
 #![tactic(auto)]
 
-ghost use Rattle.std.specs.Prelude.{◌≡◌, false, ◌≤◌, take};
-ghost use Rattle.rules.specs.Answer.{is_refused};
-ghost use Rattle.rules.specs.Records.{levels_of};
-ghost use Rattle.rules.specs.Refusals.{bad_chart};
-ghost use Rattle.rules.specs.BarsFile.{read_bars};
-ghost use Rattle.rules.specs.Program.{marks_of, printed_bars, chart_read, marks_output};
-ghost use Rattle.chart_read.specs.Loaded.{loaded};
+ghost use Rattle.std.specs.Prelude.{◌≡◌, false, not, Ok, IfOk};
+ghost use Rattle.price.specs.Price.{is_price};
+ghost use Rattle.chart.specs.declared.NMark.{NMark};
+ghost use Rattle.rows.specs.Rows.{rows_in};
+ghost use Rattle.rules.specs.Answer.{answer_at, is_refused};
+ghost use Rattle.rules.specs.Lists.{any};
+ghost use Rattle.rules.specs.Refusals.{overfull};
+ghost use Rattle.rules.specs.Program.{chart_read, marks_output};
+ghost use Rattle.chart_read.specs.Heads.{content_of};
+ghost use Rattle.marks_file.specs.Printed.{text_of};
 
-use chart::Chart;
+use chart::{NMark, Refusal, RefusedAt};
 use chart_read::Loaded;
-use mark_text::Text;
+use rows::Rows;
+use text::Text;
 
-// The chart of a file, as the programs read it: one above 65,536 bytes is refused with 3 at 65536. Beside a refusal the chart is free.
-pub fn load_chart(file: &[u8]) -> Loaded
-    ensures { loaded result.number result.place result.chart result.passed ≡ chart_read file.now }
+// The chart of a file, as the programs read it: one above 65,536 bytes is refused with 3 at 65536.
+pub fn load_chart(file: &[u8]) -> Result<Loaded, RefusedAt>
+    ensures chart_value { answer_at content_of result ≡ chart_read file.now }
+    ensures chart_fits { IfOk result (λ l. overfull l.chart ≡ false) }
 {
     if 65536 < file.len() {
-        return chart_read::refusal(3, 65536);
+        return Err(RefusedAt {
+            refusal: Refusal::Full,
+            place: 65536,
+        });
     }
     chart_read::read_chart(file)
 }
@@ -28,50 +36,30 @@ pub fn load_chart(file: &[u8]) -> Loaded
 pub fn chart_refused(file: &[u8]) -> bool
     ensures { result ≡ is_refused (chart_read file.now) }
 {
-    let read = load_chart(file);
-    read.number != 0
+    load_chart(file).is_err()
 }
 
-// Of a chart that is read, with its bars: a line per 3+N mark, or the refusal of the mark call, whose place is 0.
-fn marks_of_chart(chart: Chart, highs: &[f64], lows: &[f64]) -> Text
-    requires { bad_chart chart ≡ false }
-    ensures bytes_value { take result.len result.bytes ≡ marks_of (levels_of chart) (record { highs = highs.now; lows = lows.now }) }
-    ensures len_bound { result.len ≤ 24576 }
+// The 3+N marks of a chart file over a bars file. There are places for 2,048 bars; the next is refused with 3. Where the mark call refuses, the place
+// is 0.
+fn marks_in(chart: &[u8], bars: &[u8]) -> Result<Rows<NMark, 512>, RefusedAt>
+    ensures marks_value { text_of result ≡ marks_output chart.now bars.now }
+    ensures priced { IfOk result (λ marks. any (λ (m : NMark). not (is_price m.price)) (rows_in marks) ≡ false) }
 {
-    let found = three_n::bigseg_3n_marks_all_zhongshu(chart, highs, lows);
-    if found.number != 0 {
-        return mark_text::refused_line(found.number, 0);
-    }
-    let rows = found.rows;
-    mark_text::marks_text(rows, found.count)
-}
-
-// Of a chart that is read, with a bars file. There are places for 2,048 bars; the next is refused with 3.
-fn marks_of_bars(chart: Chart, bars: &[u8]) -> Text
-    requires { bad_chart chart ≡ false }
-    ensures bytes_value { take result.len result.bytes ≡ printed_bars (levels_of chart) (read_bars 2048 bars.now) }
-    ensures len_bound { result.len ≤ 24576 }
-{
+    let loaded = load_chart(chart)?;
     let mut highs = [0.0; 2048];
     let mut lows = [0.0; 2048];
-    let read = bars_read::read_bars(bars, &mut highs, &mut lows);
-    if read.number != 0 {
-        return mark_text::refused_line(read.number, read.place);
-    }
-    let n = read.bars;
-    marks_of_chart(chart, &highs[..n], &lows[..n])
+    let n = bars_read::read_bars(bars, &mut highs, &mut lows)?;
+    let found = three_n::bigseg_3n_marks_all_zhongshu(&loaded.chart, &highs[..n], &lows[..n]);
+    found.map_err(|refusal| RefusedAt { refusal, place: 0 })
 }
 
-// What the program `marks` prints of what its files hold. Lent the first 65,537 bytes of the chart file and the first 65,536 of the bars file, or
-// all where they are shorter, it gives what is due for the whole files (`first_bytes` in proofs/Input.antt).
+// What the program `marks` prints of what its files hold: a line per mark, or the refusal alone. Lent the first 65,537 bytes of the chart file and the
+// first 65,536 of the bars file, or all where they are shorter, it gives what is due for the whole files (`first_bytes` in proofs/Input.antt).
 pub fn marks_of_files(chart: &[u8], bars: &[u8]) -> Text
-    ensures bytes_value { take result.len result.bytes ≡ marks_output chart.now bars.now }
-    ensures len_bound { result.len ≤ 24576 }
+    ensures { rows_in result ≡ marks_output chart.now bars.now }
 {
-    let read = load_chart(chart);
-    if read.number != 0 {
-        return mark_text::refused_line(read.number, read.place);
+    match marks_in(chart, bars) {
+        Ok(marks) => mark_text::marks_text(marks.listed()),
+        Err(refused) => mark_text::refused_line(refused),
     }
-    let loaded = read.chart;
-    marks_of_bars(loaded, bars)
 }

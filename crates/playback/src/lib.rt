@@ -8,54 +8,46 @@ ghost use Rattle.call_log.specs.Log.{spelled};
 ghost use Rattle.call_log.specs.Entries.{bad_at};
 ghost use Rattle.playback.specs.Replays.{Replays};
 
-use call_log::{LogEntry, Place};
+use call_log::LogEntry;
 use live::Live;
+use rows::Rows;
 
-// What a replay leaves: where an entry of the log is bad, its place, and else an answer for each call, the chart behind them, and the bars of
-// the log in the first `bars` places.
-#[derive(Clone, Copy)]
+// What a replay leaves: an answer for each call, the chart behind them, and the bars of the log.
+#[derive(Drop)]
 pub struct Replayed {
-    pub answers: [u8; 32768],
-    pub highs: [f64; 2048],
-    pub lows: [f64; 2048],
+    pub answers: Rows<u8, 32768>,
+    pub highs: Rows<f64, 2048>,
+    pub lows: Rows<f64, 2048>,
     pub chart: Live,
-    pub count: usize,
-    pub bars: usize,
-    pub place: usize,
-    pub bad: bool,
 }
 
-// The calls of a log, each later one on the chart that the call before handed back, and its bars. An entry has two bytes at least, so there
-// are at most 32,768 calls; a bad one is never met.
+// The calls of a log without a bad entry, each later one on the chart that the call before handed back, and its bars. An entry has two bytes at
+// least, so there are at most 32,768 calls.
 fn run(log: &[u8]) -> Replayed
     requires { none ≡ bad_at (spelled log.now) }
-    ensures { Replays log.now result }
+    ensures { Replays log.now (Ok result) }
 {
     let mut chart = live::new();
-    let mut answers = [0u8; 32768];
-    let mut highs = [0.0; 2048];
-    let mut lows = [0.0; 2048];
-    let mut count = 0usize;
-    let mut bars = 0usize;
+    let mut answers = Rows::new(0);
+    let mut highs = Rows::new(0.0);
+    let mut lows = Rows::new(0.0);
     let mut at = 0usize;
+    // Entries are of different lengths: each says where the next one begins.
     while at < log.len() {
-        let n = call_log::next_entry(log, at, bars);
+        let Some(n) = call_log::next_entry(log, at, highs.count as usize) else {
+            unreachable!();
+        };
         at = n.next;
-        let entry = n.entry;
-        match entry {
+        match n.entry {
             LogEntry::Call(call) => {
                 let answer = chart.call(call);
-                answers[count] = answer.number;
-                count += 1;
-                let after = answer.chart;
-                chart = after;
+                answers.push(answer.number);
+                chart = answer.chart;
             }
             LogEntry::Bar(high, low) => {
-                highs[bars] = high;
-                lows[bars] = low;
-                bars += 1;
+                highs.push(high);
+                lows.push(low);
             }
-            LogEntry::Bad => {}
         }
     }
     Replayed {
@@ -63,32 +55,15 @@ fn run(log: &[u8]) -> Replayed
         highs,
         lows,
         chart,
-        count,
-        bars,
-        place: 0,
-        bad: false,
     }
 }
 
-// A log replayed. Where an entry of it is bad, no call is run.
-pub fn replay(log: &[u8]) -> Replayed
+// A log replayed, or the place of its first bad entry. Where one is bad, no call is run.
+pub fn replay(log: &[u8]) -> Result<Replayed, usize>
     ensures { Replays log.now result }
 {
     match call_log::bad_place(log) {
-        Place::At(place) => {
-            return Replayed {
-                answers: [0; 32768],
-                highs: [0.0; 2048],
-                lows: [0.0; 2048],
-                chart: live::new(),
-                count: 0,
-                bars: 0,
-                place,
-                bad: true,
-            };
-        }
-        Place::Nowhere => {
-            return run(log);
-        }
+        Some(place) => Err(place),
+        None => Ok(run(log)),
     }
 }

@@ -3,268 +3,189 @@
 
 #![tactic(auto)]
 
-ghost use Rattle.std.specs.Prelude.{◌≡◌, cond, ◌≤◌, replicate};
+ghost use Rattle.std.specs.Prelude.{◌≡◌, cond, replicate, Some};
 ghost use Rattle.std.specs.Float.Ieee.{is_nan, to_bits};
 ghost use Rattle.std.specs.Float.{binary64};
 ghost use Rattle.rules.specs.Text.{hex};
 
-use chart::{Class, EndPoint, FirstMark, Ground, Label, NMark, Range, ThirdMark, Zone};
-use std::io;
+use chart::{
+    Class, EndPoint, FirstMark, Ground, Label, NMark, Range, Refusal, Stroke, ThirdMark, Triple,
+    Zone,
+};
+use rows::Rows;
 use std::io::Write;
+use std::{fmt, io};
 
-// A price's bits as 16 hexadecimal digits; of a NaN, whose bits are not defined, 16 zeros.
-pub fn hex_of(x: f64) -> [u8; 16]
-    ensures { result ≡ cond (is_nan x) (replicate 16 0x30) (hex 16 (to_bits binary64 x)) }
+// A price's bits; 0 of a NaN, whose bits are not defined.
+fn bits_of(x: f64) -> u64
+    ensures { result ≡ cond (is_nan x) 0 (to_bits binary64 x) }
 {
-    let mut digits = [48; 16];
-    if x != x {
-        return digits;
-    }
-    text::put_hex(&mut digits, 0, 16, f64::to_bits(x));
-    digits
+    if x.is_nan() { 0 } else { x.to_bits() }
 }
 
-// A price, or a number, with a space behind it.
-pub fn print_price<W: Write>(out: &mut W, x: f64) -> io::Result<()> {
-    out.write_all(&hex_of(x))?;
-    out.write_all(b" ")
-}
+// A price, whose bits are printed as 16 hexadecimal digits; of a NaN, whose bits are not defined, 16 zeros.
+#[derive(Clone, Copy)]
+pub struct Hex(pub f64);
 
-pub fn print_number<W: Write>(out: &mut W, n: u16) -> io::Result<()> {
-    write!(out, "{n} ")
-}
+impl fmt::Display for Hex {
+    ghost output = { λ x. Some (cond (is_nan x.0) (replicate 16 0x30) (hex 16 (to_bits binary64 x.0))) };
 
-// The end of a section's head: how many rows follow, or the number with which the call is refused.
-fn print_answer<W: Write>(out: &mut W, number: u8, count: u16) -> io::Result<()> {
-    if number == 0 {
-        writeln!(out, " {count}")
-    } else {
-        writeln!(out, " refused {number}")
+    fn fmt<W: fmt::Write>(&self, f: &mut fmt::Formatter<W>) -> fmt::Result {
+        write!(f, "{:016X}", bits_of(self.0))
     }
 }
 
-// A section's head.
-pub fn print_head<W: Write>(out: &mut W, name: &[u8], number: u8, count: u16) -> io::Result<()> {
-    out.write_all(name)?;
-    print_answer(out, number, count)
+// The side of a mark.
+fn side(is_buy: bool) -> &'static str {
+    if is_buy { "buy" } else { "sell" }
 }
 
-// The head of a section of a case-3 byte.
-pub fn print_case3_head<W: Write>(
-    out: &mut W,
-    name: &[u8],
-    case3: u8,
-    number: u8,
-    count: u16,
-) -> io::Result<()> {
-    out.write_all(name)?;
-    write!(out, " case3={case3}")?;
-    print_answer(out, number, count)
+// What is printed on a line.
+pub trait Row {
+    fn print<W: Write>(&self, out: &mut W) -> io::Result<()>;
 }
 
-// How many places of an array are filled: as many as are counted, and no more than it has.
-pub fn filled(count: usize, size: usize) -> usize
-    ensures { result ≤ size }
-{
-    if count < size { count } else { size }
-}
-
-// How many rows are printed.
-pub fn shown(count: u16, size: usize) -> usize
-    ensures { result ≤ size }
-{
-    filled(count as usize, size)
-}
-
-// A word and a number, on a line.
-pub fn print_line<W: Write>(out: &mut W, word: &[u8], n: u64) -> io::Result<()> {
-    out.write_all(word)?;
-    writeln!(out, "{n}")
-}
-
-// The range of a big, with a space behind it.
-fn print_range<W: Write>(out: &mut W, range: Range) -> io::Result<()> {
-    match range {
-        Range::Found(span) => {
-            print_number(out, span.start_bar)?;
-            print_number(out, span.end_bar)?;
-            print_price(out, span.low)?;
-            print_price(out, span.high)?;
-            print_number(out, span.low_bar)?;
-            print_number(out, span.high_bar)
-        }
-        Range::Missing => out.write_all(b"missing "),
+impl Row for Stroke {
+    fn print<W: Write>(&self, out: &mut W) -> io::Result<()> {
+        write!(
+            out,
+            "{} {} {} ",
+            self.direction, self.start_bar, self.end_bar
+        )?;
+        writeln!(
+            out,
+            "{} {} {}",
+            Hex(self.start_price),
+            Hex(self.end_price),
+            self.roll
+        )
     }
 }
 
-fn print_end_point<W: Write>(out: &mut W, end_point: EndPoint) -> io::Result<()> {
-    match end_point {
-        EndPoint::At(bar, price) => {
-            print_number(out, bar)?;
-            out.write_all(&hex_of(price))
-        }
-        EndPoint::Nowhere => out.write_all(b"none"),
+impl Row for Triple {
+    fn print<W: Write>(&self, out: &mut W) -> io::Result<()> {
+        writeln!(out, "{} {} {}", self.direction, self.first, self.last)
     }
 }
 
-// A row of the section RANGES: the range of a big, and its end point.
-pub fn print_big<W: Write>(out: &mut W, range: Range, end_point: EndPoint) -> io::Result<()> {
-    print_range(out, range)?;
-    print_end_point(out, end_point)?;
-    out.write_all(b"\n")
-}
-
-// A row of the section ZONES, behind a word: none in `report`, what the line is in `replay`.
-fn print_zone<W: Write>(out: &mut W, word: &[u8], z: Zone) -> io::Result<()> {
-    out.write_all(word)?;
-    print_number(out, z.sup_idx)?;
-    print_number(out, z.start_bar)?;
-    print_number(out, z.end_bar)?;
-    print_price(out, z.zd)?;
-    print_price(out, z.zg)?;
-    print_price(out, z.dd)?;
-    print_price(out, z.gg)?;
-    print_number(out, z.first_member)?;
-    print_number(out, z.members)?;
-    print_number(out, z.dd_bar)?;
-    let gg_bar = z.gg_bar;
-    writeln!(out, "{gg_bar}")
-}
-
-pub fn print_zones<W: Write>(
-    out: &mut W,
-    word: &[u8],
-    rows: [Zone; 256],
-    count: u16,
-) -> io::Result<()> {
-    for i in 0..shown(count, 256) {
-        print_zone(out, word, rows[i])?;
+impl Row for Zone {
+    fn print<W: Write>(&self, out: &mut W) -> io::Result<()> {
+        write!(out, "{} {} {} ", self.sup_idx, self.start_bar, self.end_bar)?;
+        write!(
+            out,
+            "{} {} {} {} ",
+            Hex(self.zd),
+            Hex(self.zg),
+            Hex(self.dd),
+            Hex(self.gg)
+        )?;
+        writeln!(
+            out,
+            "{} {} {} {}",
+            self.first_member, self.members, self.dd_bar, self.gg_bar
+        )
     }
-    Ok(())
 }
 
-// What a third mark beat.
-fn print_ground<W: Write>(out: &mut W, ground: Ground) -> io::Result<()> {
-    match ground {
-        Ground::Zone(edge) => {
-            out.write_all(b"zone ")?;
-            out.write_all(&hex_of(edge))?;
-        }
-        Ground::Anchor(price) => {
-            out.write_all(b"anchor ")?;
-            out.write_all(&hex_of(price))?;
+impl Row for ThirdMark {
+    fn print<W: Write>(&self, out: &mut W) -> io::Result<()> {
+        write!(
+            out,
+            "{} {} {} ",
+            side(self.is_buy),
+            self.bar_index,
+            Hex(self.price)
+        )?;
+        match self.ground {
+            Ground::Zone(edge) => writeln!(out, "zone {}", Hex(edge)),
+            Ground::Anchor(price) => writeln!(out, "anchor {}", Hex(price)),
         }
     }
-    out.write_all(b"\n")
 }
 
-// The side of a mark, with a space behind it.
-fn print_side<W: Write>(out: &mut W, buy: bool) -> io::Result<()> {
-    if buy {
-        out.write_all(b"buy ")
-    } else {
-        out.write_all(b"sell ")
+impl Row for NMark {
+    fn print<W: Write>(&self, out: &mut W) -> io::Result<()> {
+        writeln!(
+            out,
+            "{} {} {} {}",
+            side(self.is_buy),
+            self.order,
+            self.bar_index,
+            Hex(self.price)
+        )
     }
 }
 
-// A row of the section THIRD, behind a word.
-fn print_third<W: Write>(out: &mut W, word: &[u8], m: ThirdMark) -> io::Result<()> {
-    out.write_all(word)?;
-    print_side(out, m.is_buy)?;
-    print_number(out, m.bar_index)?;
-    print_price(out, m.price)?;
-    let ground = m.ground;
-    print_ground(out, ground)
+impl Row for Label {
+    fn print<W: Write>(&self, out: &mut W) -> io::Result<()> {
+        let len = (self.len as usize).min(self.bytes.len());
+        out.write_all(&self.bytes[..len])?;
+        writeln!(out)
+    }
 }
 
-pub fn print_thirds<W: Write>(
+impl Row for Class {
+    fn print<W: Write>(&self, out: &mut W) -> io::Result<()> {
+        write!(out, "{} {} {} ", self.first, self.last, self.direction)?;
+        let case = if self.by_case3 { 3 } else { 2 };
+        writeln!(
+            out,
+            "{case} {} {}",
+            self.extended as u8, self.base_adjacent as u8
+        )
+    }
+}
+
+impl Row for FirstMark {
+    fn print<W: Write>(&self, out: &mut W) -> io::Result<()> {
+        writeln!(out, "{} {}", self.bar_index, Hex(self.price))
+    }
+}
+
+// The range of a big, and its end point.
+#[derive(Clone, Copy)]
+pub struct Extent {
+    pub range: Range,
+    pub end_point: Option<EndPoint>,
+}
+
+impl Row for Extent {
+    fn print<W: Write>(&self, out: &mut W) -> io::Result<()> {
+        match self.range {
+            Range::Found(span) => {
+                write!(out, "{} {} ", span.start_bar, span.end_bar)?;
+                write!(out, "{} {} ", Hex(span.low), Hex(span.high))?;
+                write!(out, "{} {} ", span.low_bar, span.high_bar)?;
+            }
+            Range::Missing => write!(out, "missing ")?,
+        }
+        match self.end_point {
+            Some(end) => writeln!(out, "{} {}", end.bar, Hex(end.price)),
+            None => writeln!(out, "none"),
+        }
+    }
+}
+
+// A line for each row, behind a word: none in `report`, what the line is in `replay`.
+pub fn print_rows<W: Write, T: Row>(out: &mut W, word: &str, rows: &[T]) -> io::Result<()> {
+    for row in rows {
+        out.write_all(word.as_bytes())?;
+        row.print(out)?;
+    }
+    Ok(())
+}
+
+// A section: its head, with how many rows follow or with the refusal of the call, and the rows.
+pub fn print_section<W: Write, D: fmt::Display + Drop, T: Row + Copy, const N: usize>(
     out: &mut W,
-    word: &[u8],
-    rows: [ThirdMark; 512],
-    count: u16,
+    head: D,
+    found: Result<Rows<T, N>, Refusal>,
 ) -> io::Result<()> {
-    for i in 0..shown(count, 512) {
-        print_third(out, word, rows[i])?;
+    match found {
+        Ok(rows) => {
+            writeln!(out, "{head} {}", rows.count)?;
+            print_rows(out, "", rows.listed())
+        }
+        Err(refusal) => writeln!(out, "{head} refused {refusal}"),
     }
-    Ok(())
-}
-
-// A row of the section THREEN, behind a word.
-fn print_threen<W: Write>(out: &mut W, word: &[u8], m: NMark) -> io::Result<()> {
-    out.write_all(word)?;
-    print_side(out, m.is_buy)?;
-    let order = m.order;
-    write!(out, "{order} ")?;
-    print_number(out, m.bar_index)?;
-    out.write_all(&hex_of(m.price))?;
-    out.write_all(b"\n")
-}
-
-pub fn print_threens<W: Write>(
-    out: &mut W,
-    word: &[u8],
-    rows: [NMark; 512],
-    count: u16,
-) -> io::Result<()> {
-    for i in 0..shown(count, 512) {
-        print_threen(out, word, rows[i])?;
-    }
-    Ok(())
-}
-
-// A row of the section LABELS.
-fn print_bytes<W: Write>(out: &mut W, bytes: [u8; 16], n: usize) -> io::Result<()> {
-    if n <= 16 {
-        out.write_all(&bytes[..n])?;
-    }
-    out.write_all(b"\n")
-}
-
-fn print_label<W: Write>(out: &mut W, l: Label) -> io::Result<()> {
-    let bytes = l.bytes;
-    print_bytes(out, bytes, l.len as usize)
-}
-
-pub fn print_labels<W: Write>(out: &mut W, rows: [Label; 256], count: u16) -> io::Result<()> {
-    for i in 0..shown(count, 256) {
-        print_label(out, rows[i])?;
-    }
-    Ok(())
-}
-
-// A row of a section CLASSES.
-fn print_class<W: Write>(out: &mut W, k: Class) -> io::Result<()> {
-    print_number(out, k.first)?;
-    print_number(out, k.last)?;
-    print_number(out, k.direction as u16)?;
-    print_number(out, if k.by_case3 { 3 } else { 2 })?;
-    print_number(out, k.extended as u16)?;
-    let base_adjacent = k.base_adjacent as u8;
-    writeln!(out, "{base_adjacent}")
-}
-
-pub fn print_classes<W: Write>(out: &mut W, rows: [Class; 256], count: u16) -> io::Result<()> {
-    for i in 0..shown(count, 256) {
-        print_class(out, rows[i])?;
-    }
-    Ok(())
-}
-
-// A row of a section of first marks.
-fn print_first<W: Write>(out: &mut W, m: FirstMark) -> io::Result<()> {
-    print_number(out, m.bar_index)?;
-    out.write_all(&hex_of(m.price))?;
-    out.write_all(b"\n")
-}
-
-pub fn print_firsts<W: Write>(out: &mut W, rows: [FirstMark; 256], count: u16) -> io::Result<()> {
-    for i in 0..shown(count, 256) {
-        print_first(out, rows[i])?;
-    }
-    Ok(())
-}
-
-// The line of a file that is refused.
-pub fn print_refused<W: Write>(out: &mut W, number: u8, place: usize) -> io::Result<()> {
-    writeln!(out, "refused {number} at {place}")
 }

@@ -20,7 +20,7 @@ use Rattle.chart.specs.declared.ThirdMark.{ThirdMark}
 use Rattle.chart.specs.declared.NMark.{NMark}
 use Rattle.price.specs.Price.{Price}
 use Rattle.price.proofs.Order.{keys, tests}
-use Rattle.rules.specs.Answer.{refused, rows_answer}
+use Rattle.rules.specs.Answer.{refused, counted_answer}
 use Rattle.rules.specs.Records.{is_up, Levels, levels_of, Quotes}
 use Rattle.rules.specs.Ranges.{range_of}
 use Rattle.rules.specs.Zones.{overlap_zones, members_of}
@@ -121,8 +121,8 @@ lie_shuts_3n d q = refl
 rows_unseen : {A : Type 0} (rows : List A) → length rows ≡ 512 → take 600 rows ≡ take 512 rows
 rows_unseen rows h = same_taken rows 512 h refl
 
-rows-refuse : {A : Type 0} (rows : List A) → length rows ≡ 512 → rows_answer 0 600 rows ≡ refused 0
-unfolding rows_answer
+rows-refuse : {A : Type 0} (rows : List A) → length rows ≡ 512 → counted_answer 0 600 rows ≡ refused 0
+unfolding counted_answer
 rows-refuse rows h = rw h
 
 -- a result that counts more rows than it has, and a refused one that has rows

@@ -1,3 +1,4 @@
+pub mod Counted
 pub mod Results
 pub mod Promised
 pub mod Hostile

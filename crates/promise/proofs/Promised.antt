@@ -8,7 +8,7 @@ use Rattle.chart.specs.declared.Zone.{Zone}
 use Rattle.chart.specs.declared.Chart.{Chart}
 use Rattle.chart.specs.declared.ThirdMark.{ThirdMark}
 use Rattle.chart.specs.declared.NMark.{NMark}
-use Rattle.rules.specs.Answer.{rows_answer}
+use Rattle.rules.specs.Answer.{counted_answer}
 use Rattle.rules.specs.Records.{levels_of, Quotes}
 use Rattle.rules.specs.Zones.{overlap_zones, members_of}
 use Rattle.rules.specs.Marks.{third_marks, n_marks}
@@ -48,7 +48,7 @@ module _ (c : Chart) (good : bad_chart c ≡ false) (o : InOrder (levels_of c)) 
   few = never-11 (levels_of c) (not-broken (levels_of c) o) o.bigs.fit
 
   third :
-      (q : Quotes) (number count : ℕ) (rows : List ThirdMark) → rows_answer number count rows ≡ third_call c q
+      (q : Quotes) (number count : ℕ) (rows : List ThirdMark) → counted_answer number count rows ≡ third_call c q
       → Thirds (levels_of c) q number count rows
   third q number count rows e =
       let r = result count rows _ (third_marks (levels_of c) q) number (e ∙ third-is c q good few) in
@@ -59,7 +59,7 @@ module _ (c : Chart) (good : bad_chart c ≡ false) (o : InOrder (levels_of c)) 
       }
 
   three_n :
-      (q : Quotes) (number count : ℕ) (rows : List NMark) → rows_answer number count rows ≡ n_call c q
+      (q : Quotes) (number count : ℕ) (rows : List NMark) → counted_answer number count rows ≡ n_call c q
       → ThreeN (levels_of c) q number count rows
   three_n q number count rows e =
       let l = levels_of c in

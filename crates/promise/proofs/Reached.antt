@@ -13,7 +13,7 @@ use Rattle.chart.specs.declared.Stroke.{Stroke}
 use Rattle.chart.specs.declared.Triple.{Triple}
 use Rattle.chart.specs.declared.ThirdMark.{ThirdMark}
 use Rattle.chart.specs.declared.NMark.{NMark}
-use Rattle.rules.specs.Answer.{refused, answered, rows_answer}
+use Rattle.rules.specs.Answer.{refused, answered, counted_answer}
 use Rattle.rules.specs.Records.{Levels, levels_of, Quotes}
 use Rattle.rules.specs.Zones.{overlap_zones, zones_from}
 use Rattle.rules.specs.Refusals.{overfull, kept_zones}
@@ -59,7 +59,7 @@ use Rattle.rules.proofs.ChartK.{K, bars_of, bars_k}
 use Rattle.laws.proofs.Ordered.{InOrder, not-broken}
 use Rattle.laws.proofs.Zones.{zones_256}
 use Rattle.laws.proofs.Machine.{step_ordered, run_ordered, live-is}
-use Rattle.laws.proofs.Answers.{given-rows, refused-rows}
+use Rattle.promise.proofs.Counted.{given-rows, refused-rows}
 use Rattle.live.specs.declared.Live.{Live}
 use Rattle.live.specs.Did.{data_of, part, TrueCounts, Did, Nothing}
 use Rattle.live.specs.Sequence.{Chain, done, next}
@@ -160,7 +160,7 @@ every_list ks = (live_of empty, live_of (run empty ks), nothing, chain empty (ru
 
 -- ---- every answer has its result
 
-pub every_answer : {A : Type 0} (r : ℕ) (l : List A) → (number count : ℕ) × (rows : List A) × (rows_answer number count rows ≡ answered r l)
+pub every_answer : {A : Type 0} (r : ℕ) (l : List A) → (number count : ℕ) × (rows : List A) × (counted_answer number count rows ≡ answered r l)
 unfolding answered
 every_answer zero l = (0, length l, l, given-rows l (length l) (omega arith) ∙ rw (take-length l))
 every_answer (suc r) l = (suc r, 0, l, refused-rows l (suc r) (omega arith))
@@ -213,15 +213,15 @@ building =
 record Built : Type 0 where
   by : Way building
   -- a result of each call for marks, with number 0 and rows
-  third : rows_answer 0 1 (zone_third true 29 26 20 ∷ []) ≡ third_call by.left.chart (bars_k 26)
-  three_n : rows_answer 0 2 (mark true 0 29 26 ∷ mark true 1 38 19 ∷ []) ≡ n_call by.left.chart (bars_k 26)
+  third : counted_answer 0 1 (zone_third true 29 26 20 ∷ []) ≡ third_call by.left.chart (bars_k 26)
+  three_n : counted_answer 0 2 (mark true 0 29 26 ∷ mark true 1 38 19 ∷ []) ≡ n_call by.left.chart (bars_k 26)
   -- each number that refuses them; a stroke that ends behind the slices refuses the 3+N call alone
   unequal_slices : n_call by.left.chart (record { highs = (bars_k 26).highs; lows = [] }) ≡ refused 8
   no_price_lem : n_call by.left.chart (record { highs = nan ∷ []; lows = nan ∷ [] }) ≡ refused 1
   outside : n_call by.left.chart (bars_of 38 26) ≡ refused 9
   third_unequal_slices : third_call by.left.chart (record { highs = (bars_k 26).highs; lows = [] }) ≡ refused 8
   third_no_price : third_call by.left.chart (record { highs = nan ∷ []; lows = nan ∷ [] }) ≡ refused 1
-  third_inside : rows_answer 0 1 (zone_third true 29 26 20 ∷ []) ≡ third_call by.left.chart (bars_of 38 26)
+  third_inside : counted_answer 0 1 (zone_third true 29 26 20 ∷ []) ≡ third_call by.left.chart (bars_of 38 26)
 
 built : Built
 unfolding everything live_of way
@@ -254,8 +254,8 @@ record Rolled : Type 0 where
   strokes : (levels_in by.left).strokes ≡ rolled_strokes
   jump : refusal (levels (take 1 rolled_strokes) [] [] []) (add_stroke (stroke 0 (turn 5 25) (turn 9 14))) ≡ 14
   zone_there : kept_zones (data_of by.left) ≡ zone 0 5 18 16 24 14 25 1 2 9 5 ∷ []
-  third : rows_answer 0 1 (zone_third true 29 26 24 ∷ []) ≡ third_call by.left.chart (bars_k 26)
-  three_n : rows_answer 0 2 (mark true 0 29 26 ∷ mark true 1 38 19 ∷ []) ≡ n_call by.left.chart (bars_k 26)
+  third : counted_answer 0 1 (zone_third true 29 26 24 ∷ []) ≡ third_call by.left.chart (bars_k 26)
+  three_n : counted_answer 0 2 (mark true 0 29 26 ∷ mark true 1 38 19 ∷ []) ≡ n_call by.left.chart (bars_k 26)
 
 rolled_k : Rolled
 unfolding everything live_of way
@@ -337,8 +337,8 @@ record Mixed : Type 0 where
   -- a big and a superior are derived, the superior is lengthened
   bigs : (levels_in by.left).bigs ≡ triple 0 0 2 ∷ bigs12
   superiors : (levels_in by.left).superiors ≡ triple 1 1 5 ∷ triple 0 6 7 ∷ []
-  third : rows_answer 0 3 thirds12 ≡ third_call by.left.chart bars12
-  three_n : rows_answer 0 4 marks12 ≡ n_call by.left.chart bars12
+  third : counted_answer 0 3 thirds12 ≡ third_call by.left.chart bars12
+  three_n : counted_answer 0 4 marks12 ≡ n_call by.left.chart bars12
 
 mixed : Mixed
 unfolding everything live_of way

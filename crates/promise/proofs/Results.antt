@@ -8,7 +8,7 @@ use mathlib.Core.List.{List}
 use lib.Dec.{eqb}
 use borrow.Author.Tests.{eqb-true}
 use Rattle.chart.specs.declared.Chart.{Chart}
-use Rattle.rules.specs.Answer.{refused, answered, rows_answer}
+use Rattle.rules.specs.Answer.{refused, answered, counted_answer}
 use Rattle.rules.specs.Records.{levels_of, Quotes}
 use Rattle.rules.specs.Marks.{third_marks, n_marks}
 use Rattle.rules.specs.Refusals.{
@@ -22,15 +22,15 @@ use Rattle.rules.specs.Refusals.{
   bad_chart,
 }
 use Rattle.rules.specs.Calls.{on_chart, third_call, n_call}
-use Rattle.laws.proofs.Answers.{rows-given, rows-number}
+use Rattle.promise.proofs.Counted.{rows-given, rows-number}
 use Rattle.promise.specs.Promise.{Result}
 
 -- ---- a struct that stands for an answer
 
 module _ {A : Type 0} (count : ℕ) (rows : List A) (r : ℕ) (l : List A) where
   -- beside a refusal the count is 0
-  rows_none : (n : ℕ) → n ≢ 0 → rows_answer n count rows ≡ answered r l → count ≡ 0
-  unfolding rows_answer answered
+  rows_none : (n : ℕ) → n ≢ 0 → counted_answer n count rows ≡ answered r l → count ≡ 0
+  unfolding counted_answer answered
   rows_none zero h e = absurd (h refl)
   rows_none (suc n) h e = go (eqb count 0) refl r e
     where
@@ -39,13 +39,13 @@ module _ {A : Type 0} (count : ℕ) (rows : List A) (r : ℕ) (l : List A) where
       go false f zero g = let z : ◌≡◌ {A = ℕ} 0 1 = cc in absurd (omega arith)
       go false f (suc k) g = let z : 0 ≡ suc k = cc in absurd (omega arith)
 
-  pub result : (n : ℕ) → rows_answer n count rows ≡ answered r l → Result r l n count rows
+  pub result : (n : ℕ) → counted_answer n count rows ≡ answered r l → Result r l n count rows
   result n e =
       record {
         number_is = rows-number count rows r l n e;
         no_rows = λ h. rows_none n h e;
-        true_count = λ h. omega (arith, (rows-given count rows r l (ap (λ (x : ℕ). rows_answer x count rows) (sym h) ∙ e)).few);
-        rows_are = λ h. (rows-given count rows r l (ap (λ (x : ℕ). rows_answer x count rows) (sym h) ∙ e)).same;
+        true_count = λ h. omega (arith, (rows-given count rows r l (ap (λ (x : ℕ). counted_answer x count rows) (sym h) ∙ e)).few);
+        rows_are = λ h. (rows-given count rows r l (ap (λ (x : ℕ). counted_answer x count rows) (sym h) ∙ e)).same;
       }
 
 -- ---- the calls for marks, where the chart is not refused with 21 and has no more than 256 zones

@@ -6,7 +6,7 @@ use Rattle.std.proofs.Math.Option.{some}
 use Rattle.chart.specs.declared.Zone.{Zone}
 use Rattle.chart.specs.declared.ThirdMark.{ThirdMark}
 use Rattle.chart.specs.declared.NMark.{NMark}
-use Rattle.rules.specs.Answer.{rows_answer}
+use Rattle.rules.specs.Answer.{counted_answer}
 use Rattle.rules.specs.Records.{Levels, levels_of, Quotes}
 use Rattle.rules.specs.Ranges.{range_of}
 use Rattle.rules.specs.Zones.{overlap_zones, members_of}
@@ -85,11 +85,11 @@ pub record Promise (ks : List Call) (ns : List ℕ) (d : Live) : Type 0 where
       (z : Zone) → Memᴰ z (zones_in d) → Extremes (range_of (levels_in d)) (levels_in d).bigs (members_of (levels_in d)) z
   -- for all lent highs and lows, and every result that stands for the third call's answer, as its contract says
   pub third :
-      (q : Quotes) (number count : ℕ) (rows : List ThirdMark) → rows_answer number count rows ≡ third_call d.chart q
+      (q : Quotes) (number count : ℕ) (rows : List ThirdMark) → counted_answer number count rows ≡ third_call d.chart q
       → Thirds (levels_in d) q number count rows
   -- and for the 3+N call's
   pub three_n :
-      (q : Quotes) (number count : ℕ) (rows : List NMark) → rows_answer number count rows ≡ n_call d.chart q
+      (q : Quotes) (number count : ℕ) (rows : List NMark) → counted_answer number count rows ≡ n_call d.chart q
       → ThreeN (levels_in d) q number count rows
 
 -- "Take any list of add, lengthen, withdraw and derive calls, at any level, refused ones included: the first gets a chart with nothing in it and

@@ -6,7 +6,7 @@ use mathlib.Core.List.{List, [], ◌∷◌, ◌++◌}
 use lib.ListN.{length, take, replicate}
 use lib.Ieee.{Float, nan}
 use Rattle.price.specs.Bytes.{bytes_of}
-use Rattle.rules.specs.Answer.{AnswerBy, NumberAt, refused, given, is_refused, count_answer}
+use Rattle.rules.specs.Answer.{AnswerBy, NumberAt, refused, given, is_refused}
 use Rattle.rules.specs.Records.{Quotes}
 use Rattle.rules.specs.Text.{ascii}
 use Rattle.rules.specs.File.{stroke, record_bytes}
@@ -94,10 +94,6 @@ pub record Facts : Type 0 where
   pub count_refused : bar_count (at 13 18) ≡ at 13 18
   pub is_refused_fact : is_refused (at {A = ℕ} 13 18) ≡ true
   pub is_given : is_refused two ≡ false
-  pub answer : count_answer 0 0 2 ≡ given 2
-  pub answer_refused : count_answer 13 18 0 ≡ at 13 18
-  pub answer_place : count_answer 0 1 2 ≡ at 0 0
-  pub answer_count : count_answer 13 18 1 ≡ at 0 0
   -- "read into lent slices at those numbers"; "places behind keep their contents"; a refused reading leaves them
   pub after :
       bars_after two (slices (price 1 ∷ price 2 ∷ price 3 ∷ []) (price 4 ∷ price 5 ∷ price 6 ∷ []))
@@ -163,10 +159,6 @@ facts =
       count_refused = refl;
       is_refused_fact = refl;
       is_given = refl;
-      answer = refl;
-      answer_refused = refl;
-      answer_place = refl;
-      answer_count = refl;
       after = refl;
       after_refused = refl;
       written = refl;

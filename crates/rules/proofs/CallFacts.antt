@@ -8,10 +8,11 @@ use lib.Ieee.{Float, nan, inf}
 use Rattle.chart.specs.declared.Stroke.{Stroke}
 use Rattle.chart.specs.declared.Triple.{Triple}
 use Rattle.chart.specs.declared.Range.TheVariants.{Missing}
+use Rattle.std.specs.Prelude.{Some, None}
+use Rattle.std.specs.declared.option.Option.{Option}
 use Rattle.chart.specs.declared.EndPoint.{EndPoint}
-use Rattle.chart.specs.declared.EndPoint.TheVariants.{At, Nowhere}
 use Rattle.chart.specs.declared.Chart.{Chart}
-use Rattle.rules.specs.Answer.{refused, given, range_answer, end_point_answer}
+use Rattle.rules.specs.Answer.{refused, given}
 use Rattle.rules.specs.Records.{Levels, Quotes}
 use Rattle.rules.specs.Text.{ascii}
 use Rattle.rules.specs.Refusals.{bad_slices, zones_refusal}
@@ -77,8 +78,8 @@ folded =
 
 -- an end point
 
-abbrev ending : ℕ → ℕ → EndPoint
-ending bar p = At bar (price p)
+abbrev ending : ℕ → ℕ → Option EndPoint
+ending bar p = Some (record { bar = bar; price = price p })
 
 -- K whose last stroke is joined to nothing and whose last segment has first > last: broken as a live chart, not as a loaded one
 abbrev unjoined : Chart
@@ -143,26 +144,20 @@ pub record Facts : Type 0 where
   pub range_direction : range_call turned_superior (triple 0 1 1) ≡ refused 21
   pub range_price : range_call no_number (triple 0 7 7) ≡ refused 21
   pub range_21_first : range_call no_number (triple 0 1 0) ≡ refused 21
-  pub range_stands : range_answer 0 Missing ≡ given Missing
-  pub range_refused : range_answer 21 Missing ≡ refused 21
-  pub range_beside : range_answer 21 (found 0 3 0 5 3 0) ≡ refused 0
   -- end points: 21
   pub end_k : end_point_call (charted K) 3 ≡ given (ending 18 16)
   pub end_strokes : end_point_call folded 0 ≡ given (ending 3 0)
   pub end_segments : end_point_call folded 1 ≡ given (ending 6 6)
   pub end_turned : end_point_call folded 2 ≡ given (ending 3 0)
   pub end_no_first_stroke : end_point_call folded 3 ≡ given (ending 5 1)
-  pub end_no_last_stroke : end_point_call folded 4 ≡ given Nowhere
-  pub end_no_segment : end_point_call folded 5 ≡ given Nowhere
-  pub end_no_big : end_point_call folded 6 ≡ given Nowhere
-  pub end_behind : end_point_call longer 8 ≡ given Nowhere
+  pub end_no_last_stroke : end_point_call folded 4 ≡ given None
+  pub end_no_segment : end_point_call folded 5 ≡ given None
+  pub end_no_big : end_point_call folded 6 ≡ given None
+  pub end_behind : end_point_call longer 8 ≡ given None
   pub end_overfull : end_point_call overfull 1 ≡ refused 21
   pub end_direction : end_point_call turned_superior 1 ≡ refused 21
   pub end_price_lem : end_point_call no_number 7 ≡ refused 21
   pub end_21_first : end_point_call no_number 8 ≡ refused 21
-  pub end_stands : end_point_answer 0 Nowhere ≡ given Nowhere
-  pub end_refused : end_point_answer 21 Nowhere ≡ refused 21
-  pub end_beside : end_point_answer 21 (ending 3 0) ≡ refused 0
   -- overlap zones: 21, 11
   pub zones_k : zones_call (charted K) ≡ given (zone_k ∷ [])
   pub zones_empty : zones_call (charted (levels [] [] [] [])) ≡ given []
@@ -272,9 +267,6 @@ facts =
       range_direction = refl;
       range_price = refl;
       range_21_first = refl;
-      range_stands = refl;
-      range_refused = refl;
-      range_beside = refl;
       end_k = refl;
       end_strokes = refl;
       end_segments = refl;
@@ -288,9 +280,6 @@ facts =
       end_direction = refl;
       end_price_lem = refl;
       end_21_first = refl;
-      end_stands = refl;
-      end_refused = refl;
-      end_beside = refl;
       zones_k = refl;
       zones_empty = refl;
       zones_behind = refl;

@@ -23,7 +23,7 @@ use Rattle.rules.specs.Calls as calls
 -- `unfolding everything` unfolds what the line below names; its value says nothing
 unfoldable pub everything : ℕ
 unfolding records.levels_of
-    answer.is_refused answer.answered answer.rows_answer answer.count_answer answer.range_answer answer.end_point_answer
+    answer.is_refused answer.answered answer.counted_answer
     ranges.first_stroke ranges.last_stroke ranges.spanned ranges.range_of ranges.segment_range ranges.end_point_of
     zones.opposing zones.low_bar_of zones.high_bar_of zones.begin zones.joins zones.join zones.cut zones.runs zones.within zones.opposing_of zones.zones_of zones.zones_from
     zones.members_in zones.overlap_zones zones.members_of zones.lower_zones_of zones.lower_members_of

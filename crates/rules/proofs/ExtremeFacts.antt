@@ -1,15 +1,19 @@
 -- Facts about request 6 of 02: the bars of the low and the high of a range, and of dd and gg of a zone. Assumes nothing.
 use Prim.Native.Nat.{ℕ}
 use mathlib.Core.Path.{◌≡◌, refl}
+use mathlib.Core.Bool.{true, false}
 use mathlib.Core.List.{List, [], ◌∷◌}
 use Rattle.chart.specs.declared.Stroke.{Stroke}
 use Rattle.chart.specs.declared.Range.{Range}
 use Rattle.rules.specs.Answer.{Answer, given}
 use Rattle.rules.specs.Records.{Levels}
 use Rattle.rules.specs.Zones.{overlap_zones}
+use Rattle.rules.specs.Marks.{third_marks}
+use Rattle.rules.specs.Labels.{labels}
+use Rattle.rules.specs.Text.{ascii}
 use Rattle.rules.specs.Calls.{range_call}
 use Rattle.rules.proofs.Computing.{everything}
-use Rattle.rules.proofs.Charts.{turn, triple, stroke, strokes_of, levels, levelled, over_bigs, charted, found, zone}
+use Rattle.rules.proofs.Charts.{turn, triple, stroke, strokes_of, levels, levelled, over_bigs, charted, flat, found, zone, zone_third}
 use Rattle.rules.proofs.ChartK.{K, zone_k}
 use Rattle.rules.proofs.LiveFacts.{on}
 
@@ -38,6 +42,10 @@ pub record Facts : Type 0 where
   pub falling : range_from (down 5 20 9 14) ≡ given (found 5 9 14 20 9 5)
   pub rising : range_from (down 5 14 9 20) ≡ given (found 5 9 14 20 5 9)
   pub rising_bars_fall : range_from (down 9 14 5 20) ≡ given (found 9 5 14 20 9 5)
+  -- by the two prices of the range, whatever its last stroke does
+  pub last_stroke_falls :
+      range_call (charted (levels (strokes_of 1 (turn 0 0 ∷ turn 1 5 ∷ turn 2 3 ∷ [])) (triple 1 0 1 ∷ []) (triple 1 0 0 ∷ []) [])) (triple 1 0 0)
+      ≡ given (found 0 2 0 3 0 2)
   -- "the start bar wins where both prices are equal": also where the end bar is smaller
   pub level : range_from (down 3 14 7 14) ≡ given (found 3 7 14 14 3 3)
   pub level_bars_fall : range_from (down 7 14 3 14) ≡ given (found 7 3 14 14 7 7)
@@ -53,6 +61,7 @@ pub record Facts : Type 0 where
   -- of the member that has dd, and of the one that has gg, whatever the bars of the others are
   pub second_lower : overlap_zones (opposed 1 (first_big ∷ down 14 19 18 12 ∷ [])) ≡ zone 0 5 18 14 19 12 20 0 2 18 5 ∷ []
   pub second_higher : overlap_zones (opposed 1 (first_big ∷ down 14 24 2 16 ∷ [])) ≡ zone 0 5 2 16 20 14 24 0 2 9 14 ∷ []
+  pub second_ends_higher : overlap_zones (opposed 1 (first_big ∷ down 14 16 2 24 ∷ [])) ≡ zone 0 5 2 16 20 14 24 0 2 9 2 ∷ []
   pub second_inside : overlap_zones (opposed 1 (first_big ∷ down 1 19 2 16 ∷ [])) ≡ zone 0 5 2 16 19 14 20 0 2 9 5 ∷ []
   pub last_bar_of_two : overlap_zones (opposed 1 (first_big ∷ down 65535 24 65535 12 ∷ [])) ≡ zone 0 5 65535 14 20 12 24 0 2 65535 65535 ∷ []
   -- "the smallest bar number among its members on equal prices": two lows of 14, and two highs of 20
@@ -75,6 +84,33 @@ pub record Facts : Type 0 where
   pub next_run :
       overlap_zones (opposed 1 (first_big ∷ down 2 24 1 20 ∷ []))
       ≡ zone 0 5 9 14 20 14 20 0 1 9 5 ∷ zone 0 2 1 20 24 20 24 1 1 1 2 ∷ []
+  -- third marks and labels go by the start and the end bar of a range or a zone, and by none of these: where a scan starts
+  pub start_not_low_bar :
+      third_marks (levelled (stroke 1 (turn 3 3) (turn 1 1) ∷ stroke 0 (turn 1 0) (turn 2 2) ∷ []) (triple 1 0 1 ∷ [])) (flat 4 3 3)
+      ≡ zone_third true 2 3 2 ∷ []
+  pub start_not_high_bar :
+      third_marks (levelled (stroke 0 (turn 1 0) (turn 0 3) ∷ stroke 1 (turn 0 3) (turn 1 3) ∷ []) (triple 1 0 0 ∷ triple 0 0 1 ∷ [])) (flat 2 0 3)
+      ≡ zone_third false 1 0 3 ∷ []
+  -- whether another superior's zone starts after this one ends, and whether it stops the scan
+  pub end_not_dd_bar :
+      third_marks (levelled (stroke 1 (turn 2 1) (turn 0 1) ∷ stroke 0 (turn 1 0) (turn 2 1) ∷ []) (triple 1 0 1 ∷ triple 0 0 1 ∷ [])) (flat 3 2 2)
+      ≡ zone_third true 2 2 1 ∷ []
+  pub after_not_dd_bar :
+      third_marks (levelled (stroke 1 (turn 0 3) (turn 2 0) ∷ stroke 0 (turn 0 0) (turn 0 3) ∷ []) (triple 0 0 1 ∷ triple 1 0 1 ∷ [])) (flat 3 3 4)
+      ≡ zone_third true 0 4 3 ∷ []
+  pub stop_not_dd_bar :
+      third_marks (levelled (stroke 1 (turn 2 0) (turn 2 1) ∷ stroke 0 (turn 1 1) (turn 0 0) ∷ []) (triple 1 1 1 ∷ triple 1 0 1 ∷ [])) (flat 4 2 2)
+      ≡ zone_third true 0 2 1 ∷ []
+  -- whether a big touches a zone
+  pub touch_not_low_bar :
+      labels (levelled (stroke 1 (turn 0 2) (turn 3 0) ∷ stroke 1 (turn 1 1) (turn 0 3) ∷ []) (triple 1 1 1 ∷ triple 0 1 1 ∷ []))
+      ≡ ascii "LA" ∷ []
+  pub touch_end_not_dd_bar :
+      labels (levelled (stroke 1 (turn 1 0) (turn 2 1) ∷ stroke 1 (turn 2 0) (turn 4 1) ∷ []) (triple 0 0 0 ∷ triple 0 1 1 ∷ []))
+      ≡ ascii "A" ∷ ascii "A" ∷ []
+  pub touch_start_not_dd_bar :
+      labels (levelled (stroke 1 (turn 2 0) (turn 2 1) ∷ stroke 0 (turn 5 2) (turn 2 1) ∷ []) (triple 1 1 1 ∷ []))
+      ≡ ascii "A" ∷ []
   -- a live chart whose kept zone has another bar is 21, behind the count it is not looked at
   pub kept : on_k 9 14 ≡ 0
   pub kept_dd_bar_before : on_k 8 14 ≡ 21
@@ -91,6 +127,7 @@ facts =
       falling = refl;
       rising = refl;
       rising_bars_fall = refl;
+      last_stroke_falls = refl;
       level = refl;
       level_bars_fall = refl;
       last_bar = refl;
@@ -99,6 +136,7 @@ facts =
       alone_level = refl;
       second_lower = refl;
       second_higher = refl;
+      second_ends_higher = refl;
       second_inside = refl;
       last_bar_of_two = refl;
       lows_earlier = refl;
@@ -111,6 +149,14 @@ facts =
       level_member = refl;
       missing_between = refl;
       next_run = refl;
+      start_not_low_bar = refl;
+      start_not_high_bar = refl;
+      end_not_dd_bar = refl;
+      after_not_dd_bar = refl;
+      stop_not_dd_bar = refl;
+      touch_not_low_bar = refl;
+      touch_end_not_dd_bar = refl;
+      touch_start_not_dd_bar = refl;
       kept = refl;
       kept_dd_bar_before = refl;
       kept_dd_bar_behind = refl;

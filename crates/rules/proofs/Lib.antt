@@ -5,6 +5,7 @@ pub mod ChartK
 pub mod MachineFacts
 pub mod LiveFacts
 pub mod CallFacts
+pub mod AnswerFacts
 pub mod FileFacts
 pub mod RollFacts
 pub mod ExtremeFacts

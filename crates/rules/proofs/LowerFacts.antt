@@ -10,7 +10,7 @@ use Rattle.chart.specs.declared.Range.TheVariants.{Missing}
 use Rattle.rules.specs.Answer.{refused, given}
 use Rattle.rules.specs.Records.{Levels}
 use Rattle.rules.specs.Ranges.{segment_range}
-use Rattle.rules.specs.Zones.{overlap_zones, lower_zones_of, lower_members_of}
+use Rattle.rules.specs.Zones.{members_of, overlap_zones, lower_zones_of, lower_members_of}
 use Rattle.rules.specs.Refusals.{lower_refusal}
 use Rattle.rules.specs.Calls.{lower_call}
 use Rattle.rules.proofs.Computing.{everything}
@@ -58,6 +58,10 @@ pub record Facts : Type 0 where
   pub one_big : lower_zones_of big_k ≡ zone_k ∷ []
   pub one_big_members : lower_members_of big_k zone_k ≡ 1 ∷ 3 ∷ []
   pub no_overlap_zone : overlap_zones big_k ≡ []
+  -- an overlap zone's members go by the range of a big: here the second big's segment has no stroke
+  pub upper_members :
+      members_of (levels K.strokes (triple 0 1 1 ∷ triple 0 8 8 ∷ []) (triple 0 0 0 ∷ triple 0 1 1 ∷ []) (triple 1 0 1 ∷ [])) zone_k
+      ≡ []
   -- K's own bigs are each one segment of their own direction
   pub none_in_k : lower_zones_of K ≡ []
   -- opposing is read against the big's direction, whatever its superior's is
@@ -111,6 +115,7 @@ facts =
       one_big = refl;
       one_big_members = refl;
       no_overlap_zone = refl;
+      upper_members = refl;
       none_in_k = refl;
       big_down = refl;
       superior_up = refl;

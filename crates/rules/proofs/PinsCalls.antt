@@ -7,7 +7,7 @@ use lib.ListN.{take}
 use Rattle.chart.specs.declared.Chart.{Chart}
 use Rattle.chart.specs.declared.Triple.{Triple}
 use Rattle.chart.specs.declared.Zone.{Zone}
-use Rattle.rules.specs.Answer.{refused, given, rows_answer}
+use Rattle.rules.specs.Answer.{given}
 use Rattle.rules.specs.Records.{Levels, levels_of}
 use Rattle.rules.specs.Zones.{overlap_zones}
 use Rattle.rules.specs.Machine.{add_stroke, add_superior, lengthen, withdraw, derive_bigs, derive_superiors, refusal, run}
@@ -41,17 +41,7 @@ two_superiors = bigs_k 8 (triple 1 0 4 ∷ triple 1 5 5 ∷ [])
 abbrev second : ℕ → Zone
 second h = zone h 25 29 26 30 26 30 5 1 29 25
 
--- two rows
-abbrev rows : List ℕ
-rows = 7 ∷ 8 ∷ []
-
 pub record Facts : Type 0 where
-  -- the answer that number, count and rows stand for
-  pub rows_all : rows_answer 0 2 rows ≡ given rows
-  pub rows_the_first : rows_answer 0 1 rows ≡ given (7 ∷ [])
-  pub rows_too_few : rows_answer 0 3 rows ≡ refused 0
-  pub rows_refused : rows_answer 21 0 rows ≡ refused 21
-  pub rows_beside_a_refusal : rows_answer 21 1 rows ≡ refused 0
   -- each level by its own count
   pub counts_apart :
       levels_of (counted 1 2 3 0 four)
@@ -113,11 +103,6 @@ pub facts : Facts
 unfolding everything
 facts =
     record {
-      rows_all = refl;
-      rows_the_first = refl;
-      rows_too_few = refl;
-      rows_refused = refl;
-      rows_beside_a_refusal = refl;
       counts_apart = refl;
       superior_over_bigs = refl;
       lengthen_over_bigs = refl;

@@ -1,9 +1,11 @@
 -- The answer of a call. Assumes nothing.
-use Rattle.std.specs.Prelude.{ℕ, zero, suc, Bool, true, false, cond, List, length, take, eqb, leb}
-use Rattle.chart.specs.declared.Range.{Range}
-use Rattle.chart.specs.declared.Range.TheVariants.{Found, Missing}
-use Rattle.chart.specs.declared.EndPoint.{EndPoint}
-use Rattle.chart.specs.declared.EndPoint.TheVariants.{At, Nowhere}
+use Rattle.std.specs.Prelude.{ℕ, zero, suc, Bool, true, false, cond, List, [], length, take, eqb, leb, Ok, Err}
+use Rattle.std.specs.declared.result.Result.{Result}
+use Rattle.chart.specs.declared.Refusal.{Refusal}
+use Rattle.chart.specs.declared.RefusedAt.{RefusedAt}
+use Rattle.chart.specs.Numbers.{number_of}
+use Rattle.rows.specs.declared.Rows.{Rows}
+use Rattle.rows.specs.Rows.{rows_in}
 
 -- refused, or what the call gives
 pub data AnswerBy (R A : Type 0) : Type 0 where
@@ -28,26 +30,36 @@ unfoldable pub answered : {A : Type 0} → ℕ → A → Answer A
 answered zero a = given a
 answered (suc n) a = refused (suc n)
 
--- The answer that a struct with a number, a count and an array of rows stands for: the first rows of the array where the number is 0, and
--- else the number, with a count of 0. A count above the array's size, or one beside a refusal, stands for no answer: no call refuses with 0
-unfoldable pub rows_answer : {A : Type 0} → ℕ → ℕ → List A → Answer (List A)
-rows_answer zero count rows = cond (leb count (length rows)) (given (take count rows)) (refused 0)
-rows_answer (suc n) count rows = cond (eqb count 0) (refused (suc n)) (refused 0)
+-- The answer that a number, a count and an array of rows stand for: the first rows of the array where the number is 0, and else the number, with a
+-- count of 0. A count above the array's size, or one beside a refusal, stands for no answer: no call refuses with 0
+unfoldable pub counted_answer : {A : Type 0} → ℕ → ℕ → List A → Answer (List A)
+counted_answer zero count rows = cond (leb count (length rows)) (given (take count rows)) (refused 0)
+counted_answer (suc n) count rows = cond (eqb count 0) (refused (suc n)) (refused 0)
 
--- That of a struct with a number, a place and a count: "reading adds P". The count where the number is 0, beside place 0; else the number and the
--- place, beside a count of 0. Another place there, or a count beside a refusal, stands for no answer
-unfoldable pub count_answer : ℕ → ℕ → ℕ → AnswerBy NumberAt ℕ
-count_answer zero place count = cond (eqb place 0) (given count) (refused (record { number = 0; place = 0 }))
-count_answer (suc n) place count = cond (eqb count 0) (refused (record { number = suc n; place = place })) (refused (record { number = 0; place = 0 }))
+-- The answer that a result of the code stands for, where f says what is given as the rules have it: "where an answer is an enum, a definition
+-- gives this paper's number and values for each of the enum's cases"
+abbrev pub answer_of : {A B : Type 0} → (A → B) → Result A Refusal → Answer B
+answer_of f (Ok a) = given (f a)
+answer_of f (Err e) = refused (number_of e)
 
--- Those of a struct with a number and a range, and with a number and an end point: what stands there where the number is 0, and else the
--- number, beside Missing or Nowhere. A range or an end point beside a refusal stands for no answer
-unfoldable pub range_answer : ℕ → Range → Answer Range
-range_answer zero r = given r
-range_answer (suc n) Missing = refused (suc n)
-range_answer (suc n) (Found s) = refused 0
+-- that of a call that gives rows
+abbrev pub rows_answer : {A : Type 0} {N : ℕ} → Result (Rows A N) Refusal → Answer (List A)
+rows_answer = answer_of rows_in
 
-unfoldable pub end_point_answer : ℕ → EndPoint → Answer EndPoint
-end_point_answer zero e = given e
-end_point_answer (suc n) Nowhere = refused (suc n)
-end_point_answer (suc n) (At bar price) = refused 0
+-- its count and its array of rows, none beside a refusal
+abbrev pub count_in : {A : Type 0} {N : ℕ} → Result (Rows A N) Refusal → ℕ
+count_in (Ok r) = r.count
+count_in (Err e) = 0
+
+abbrev pub places_in : {A : Type 0} {N : ℕ} → Result (Rows A N) Refusal → List A
+places_in (Ok r) = r.rows
+places_in (Err e) = []
+
+-- that of a call that gives what it found itself
+abbrev pub plain_answer : {A : Type 0} → Result A Refusal → Answer A
+plain_answer = answer_of (λ a. a)
+
+-- that of a reading: "reading adds P"
+abbrev pub answer_at : {A B : Type 0} → (A → B) → Result A RefusedAt → AnswerBy NumberAt B
+answer_at f (Ok a) = given (f a)
+answer_at f (Err e) = refused (record { number = number_of e.refusal; place = e.place })

@@ -2,6 +2,7 @@
 use Rattle.std.specs.Prelude.{ℕ, Bool, cond, List, eqb}
 use Rattle.chart.specs.declared.Triple.{Triple}
 use Rattle.chart.specs.declared.Range.{Range}
+use Rattle.std.specs.declared.option.Option.{Option}
 use Rattle.chart.specs.declared.EndPoint.{EndPoint}
 use Rattle.chart.specs.declared.Zone.{Zone}
 use Rattle.chart.specs.declared.Class.{Class}
@@ -39,7 +40,7 @@ unfoldable pub range_call : Chart → Triple → Answer Range
 range_call c big = on_chart c (λ (l : Levels). given (range_of l big))
 
 -- resolve_sup_end_point, of the big with an index
-unfoldable pub end_point_call : Chart → ℕ → Answer EndPoint
+unfoldable pub end_point_call : Chart → ℕ → Answer (Option EndPoint)
 end_point_call c i = on_chart c (λ (l : Levels). given (point_of (end_point_of l i)))
 
 -- detect_bigseg_zhongshus_by_overlap

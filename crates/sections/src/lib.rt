@@ -3,180 +3,99 @@
 
 #![tactic(auto)]
 
-ghost use Rattle.std.specs.Prelude.{◌<◌};
-
-use chart::Chart;
-use classes::ClassRows;
-use first_marks::FirstRows;
+use chart::{Chart, Range, Refusal, RefusedAt};
+use chart_read::Loaded;
+use printing::{Extent, print_section};
+use rows::Rows;
 use std::io;
 use std::io::Write;
 
-// The range and the end point of the big with an index.
-fn print_big<W: Write>(out: &mut W, chart: Chart, k: usize) -> io::Result<()>
-    requires { k < 256 }
-{
-    let big = chart.bigs[k];
-    let found = levels::resolve_bigseg_range(chart, big);
-    let end = levels::resolve_sup_end_point(chart, k as u16);
-    let range = found.range;
-    let end_point = end.end_point;
-    printing::print_big(out, range, end_point)
-}
-
-// The ranges and end points of all bigs. Both calls are refused with 21 only, so that one number heads the section.
-fn print_ranges<W: Write>(out: &mut W, chart: Chart) -> io::Result<()> {
-    let refusal = levels::resolve_sup_end_point(chart, 0);
-    printing::print_head(out, b"RANGES", refusal.number, chart.big_count)?;
-    if refusal.number != 0 {
-        return Ok(());
+// The ranges and end points of all bigs. Both calls are refused with 21 only, which is asked for also where there is no big.
+fn extents(chart: &Chart) -> Result<Rows<Extent, 256>, Refusal> {
+    levels::resolve_sup_end_point(chart, 0)?;
+    let mut rows = Rows::new(Extent {
+        range: Range::Missing,
+        end_point: None,
+    });
+    for k in 0..chart.big_count.min(256) {
+        rows.push(Extent {
+            range: levels::resolve_bigseg_range(chart, chart.bigs[k as usize])?,
+            end_point: levels::resolve_sup_end_point(chart, k)?,
+        });
     }
-    for k in 0..printing::shown(chart.big_count, 256) {
-        print_big(out, chart, k)?;
-    }
-    Ok(())
-}
-
-fn print_zones<W: Write>(out: &mut W, chart: Chart) -> io::Result<()> {
-    let found = zones::detect_bigseg_zhongshus_by_overlap(chart);
-    printing::print_head(out, b"ZONES", found.number, found.count)?;
-    let rows = found.rows;
-    printing::print_zones(out, b"", rows, found.count)
-}
-
-// Third marks, over the bars.
-fn print_thirds<W: Write>(
-    out: &mut W,
-    chart: Chart,
-    highs: &[f64],
-    lows: &[f64],
-) -> io::Result<()> {
-    let found = third::bigseg_third_marks_all_zhongshu(chart, highs, lows);
-    printing::print_head(out, b"THIRD", found.number, found.count)?;
-    let rows = found.rows;
-    printing::print_thirds(out, b"", rows, found.count)
-}
-
-// 3+N marks, over the bars.
-fn print_threens<W: Write>(
-    out: &mut W,
-    chart: Chart,
-    highs: &[f64],
-    lows: &[f64],
-) -> io::Result<()> {
-    let found = three_n::bigseg_3n_marks_all_zhongshu(chart, highs, lows);
-    printing::print_head(out, b"THREEN", found.number, found.count)?;
-    let rows = found.rows;
-    printing::print_threens(out, b"", rows, found.count)
-}
-
-fn print_labels<W: Write>(out: &mut W, chart: Chart) -> io::Result<()> {
-    let found = labels::detect_bigseg_trend_zhongshus(chart);
-    printing::print_head(out, b"LABELS", found.number, found.count)?;
-    let rows = found.rows;
-    printing::print_labels(out, rows, found.count)
-}
-
-// The classes of a level, with a case-3 byte.
-fn print_classes<W: Write>(
-    out: &mut W,
-    level: &[u8],
-    case3: u8,
-    found: ClassRows,
-) -> io::Result<()> {
-    printing::print_case3_head(out, level, case3, found.number, found.count)?;
-    let rows = found.rows;
-    printing::print_classes(out, rows, found.count)
-}
-
-fn print_segment_classes<W: Write>(out: &mut W, chart: Chart, case3: u8) -> io::Result<()> {
-    print_classes(
-        out,
-        b"CLASSES seg",
-        case3,
-        classes::classify_big_segments(chart, case3),
-    )
-}
-
-fn print_big_classes<W: Write>(out: &mut W, chart: Chart, case3: u8) -> io::Result<()> {
-    print_classes(
-        out,
-        b"CLASSES big",
-        case3,
-        classes::classify_sup_segments(chart, case3),
-    )
-}
-
-// The first marks of a side, with a case-3 byte.
-fn print_firsts<W: Write>(out: &mut W, side: &[u8], case3: u8, found: FirstRows) -> io::Result<()> {
-    printing::print_case3_head(out, side, case3, found.number, found.count)?;
-    let rows = found.rows;
-    printing::print_firsts(out, rows, found.count)
-}
-
-fn print_first_buys<W: Write>(out: &mut W, chart: Chart, case3: u8) -> io::Result<()> {
-    print_firsts(
-        out,
-        b"FIRSTBUY",
-        case3,
-        first_marks::detect_bigseg_first_buy_markers(chart, case3),
-    )
-}
-
-fn print_first_sells<W: Write>(out: &mut W, chart: Chart, case3: u8) -> io::Result<()> {
-    print_firsts(
-        out,
-        b"FIRSTSELL",
-        case3,
-        first_marks::detect_bigseg_first_sell_markers(chart, case3),
-    )
+    Ok(rows)
 }
 
 // All sections of a chart and its bars.
 fn print_sections<W: Write>(
     out: &mut W,
-    chart: Chart,
+    chart: &Chart,
     highs: &[f64],
     lows: &[f64],
 ) -> io::Result<()> {
-    print_ranges(out, chart)?;
-    print_zones(out, chart)?;
-    print_thirds(out, chart, highs, lows)?;
-    print_threens(out, chart, highs, lows)?;
-    print_labels(out, chart)?;
-    print_segment_classes(out, chart, 0)?;
-    print_segment_classes(out, chart, 1)?;
-    print_big_classes(out, chart, 0)?;
-    print_big_classes(out, chart, 1)?;
-    print_first_buys(out, chart, 0)?;
-    print_first_buys(out, chart, 1)?;
-    print_first_sells(out, chart, 0)?;
-    print_first_sells(out, chart, 1)
+    print_section(out, "RANGES", extents(chart))?;
+    print_section(
+        out,
+        "ZONES",
+        zones::detect_bigseg_zhongshus_by_overlap(chart),
+    )?;
+    print_section(
+        out,
+        "THIRD",
+        third::bigseg_third_marks_all_zhongshu(chart, highs, lows),
+    )?;
+    print_section(
+        out,
+        "THREEN",
+        three_n::bigseg_3n_marks_all_zhongshu(chart, highs, lows),
+    )?;
+    print_section(out, "LABELS", labels::detect_bigseg_trend_zhongshus(chart))?;
+    print_case3_sections(out, chart)
 }
 
-// The sections of a chart, of whose file so many BR records were passed over, and a bars file of at most 2,048 bars; or `refused N at P` alone.
-fn print_with_bars<W: Write>(
-    out: &mut W,
-    chart: Chart,
-    passed: usize,
+// Those with a case-3 byte, 0 and then 1.
+fn print_case3_sections<W: Write>(out: &mut W, chart: &Chart) -> io::Result<()> {
+    for case3 in 0..2 {
+        let found = classes::classify_big_segments(chart, case3);
+        print_section(out, format_args!("CLASSES seg case3={case3}"), found)?;
+    }
+    for case3 in 0..2 {
+        let found = classes::classify_sup_segments(chart, case3);
+        print_section(out, format_args!("CLASSES big case3={case3}"), found)?;
+    }
+    for case3 in 0..2 {
+        let found = first_marks::detect_bigseg_first_buy_markers(chart, case3);
+        print_section(out, format_args!("FIRSTBUY case3={case3}"), found)?;
+    }
+    for case3 in 0..2 {
+        let found = first_marks::detect_bigseg_first_sell_markers(chart, case3);
+        print_section(out, format_args!("FIRSTSELL case3={case3}"), found)?;
+    }
+    Ok(())
+}
+
+// The chart of a file, and how many bars of the other are put into the slices.
+fn read_both(
+    chart: &[u8],
     bars: &[u8],
-) -> io::Result<()> {
+    highs: &mut [f64],
+    lows: &mut [f64],
+) -> Result<(Loaded, usize), RefusedAt> {
+    let loaded = marks_file::load_chart(chart)?;
+    let count = bars_read::read_bars(bars, highs, lows)?;
+    Ok((loaded, count))
+}
+
+// How many BR records were passed over, and all sections, or `refused N at P` alone, with the limits of the program `marks`.
+pub fn print_report<W: Write>(out: &mut W, chart: &[u8], bars: &[u8]) -> io::Result<()> {
     let mut highs = [0.0; 2048];
     let mut lows = [0.0; 2048];
-    let read = bars_read::read_bars(bars, &mut highs, &mut lows);
-    if read.number != 0 {
-        return printing::print_refused(out, read.number, read.place);
+    match read_both(chart, bars, &mut highs, &mut lows) {
+        Ok((loaded, count)) => {
+            let n = count.min(2048);
+            writeln!(out, "PASSED {}", loaded.passed)?;
+            print_sections(out, &loaded.chart, &highs[..n], &lows[..n])
+        }
+        Err(refused) => writeln!(out, "{refused}"),
     }
-    let n = printing::filled(read.bars, 2048);
-    printing::print_line(out, b"PASSED ", passed as u64)?;
-    print_sections(out, chart, &highs[..n], &lows[..n])
-}
-
-// All sections, or `refused N at P` alone, with the limits of the program `marks`.
-pub fn print_report<W: Write>(out: &mut W, chart: &[u8], bars: &[u8]) -> io::Result<()> {
-    let read = marks_file::load_chart(chart);
-    if read.number != 0 {
-        return printing::print_refused(out, read.number, read.place);
-    }
-    let loaded = read.chart;
-    print_with_bars(out, loaded, read.passed, bars)
 }

@@ -5,28 +5,27 @@
 
 ghost use Rattle.sequel.specs.After.{After};
 
-use mark_rows::NRows;
+use chart::{NMark, Refusal, ThirdMark};
 use playback::Replayed;
-use third::ThirdRows;
+use rows::Rows;
 
-// A replay, and the answers of both calls for marks behind it. Where the log is bad, these are of a chart with nothing in it, and no bars.
-#[derive(Clone, Copy)]
+// A replay, and the answers of both calls for marks behind it.
+#[derive(Drop)]
 pub struct Sequel {
     pub run: Replayed,
-    pub thirds: ThirdRows,
-    pub marks: NRows,
+    pub thirds: Result<Rows<ThirdMark, 512>, Refusal>,
+    pub marks: Result<Rows<NMark, 512>, Refusal>,
 }
 
-pub fn replay_then_marks(log: &[u8]) -> Sequel
+// A log replayed, then both calls, or the place of its first bad entry.
+pub fn replay_then_marks(log: &[u8]) -> Result<Sequel, usize>
     ensures { After log.now result }
 {
-    let run = playback::replay(log);
-    let left = run.chart;
-    let chart = left.chart;
-    let highs = run.highs;
-    let lows = run.lows;
-    let n = run.bars;
-    let thirds = third::bigseg_third_marks_all_zhongshu(chart, &highs[..n], &lows[..n]);
-    let marks = three_n::bigseg_3n_marks_all_zhongshu(chart, &highs[..n], &lows[..n]);
-    Sequel { run, thirds, marks }
+    let run = playback::replay(log)?;
+    let chart = &run.chart.chart;
+    let highs = run.highs.listed();
+    let lows = run.lows.listed();
+    let thirds = third::bigseg_third_marks_all_zhongshu(chart, highs, lows);
+    let marks = three_n::bigseg_3n_marks_all_zhongshu(chart, highs, lows);
+    Ok(Sequel { run, thirds, marks })
 }

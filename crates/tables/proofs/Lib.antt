@@ -1,5 +1,1 @@
-pub mod Rows
-pub mod Bigs
-pub mod Right
-pub mod Sups
-pub mod Zones
+pub mod Filled

@@ -1,26 +1,38 @@
-// Bytes and numbers as text: each call puts some bytes into a lent slice from place `at` on, and gives the place behind them.
+// Text in memory of a fixed size, and what is put behind it: words, and numbers by their digits.
 
 #![tactic(auto)]
 
-ghost use Rattle.std.specs.Prelude.{◌≡◌, [], ◌∷◌, ◌++◌, ◌+◌, ◌≤◌, ◌<◌, length};
+ghost use Rattle.std.specs.Prelude.{◌≡◌, ◌++◌, ◌+◌, ◌≤◌, ◌<◌, length};
+ghost use Rattle.rows.specs.Rows.{rows_in};
 ghost use Rattle.rules.specs.Text.{decimal, hex_digit, hex};
-ghost use Rattle.text.specs.Puts.{Puts, digits};
 
-pub fn put(out: &mut [u8], at: usize, byte: u8) -> usize
-    requires { at < length out.old }
-    ensures { Puts out.old at (byte ∷ []) out.new result }
+use rows::Rows;
+
+// More bytes than a line for each of 512 marks takes.
+pub type Text = Rows<u8, 24576>;
+
+// Some bytes behind those that are there.
+pub fn put_word(text: &mut Text, word: &[u8])
+    requires { length (rows_in text.old) + length word.now ≤ 24576 }
+    ensures bytes { rows_in text.new ≡ rows_in text.old ++ word.now }
+    ensures long { length (rows_in text.new) ≡ length (rows_in text.old) + length word.now }
 {
-    out[at] = byte;
-    at + 1
+    let start = text.count as usize;
+    let end = start + word.len();
+    text.rows[start..end].copy_from_slice(word);
+    text.count = end as u16;
 }
 
-pub fn put_word(out: &mut [u8], at: usize, word: &[u8]) -> usize
-    requires { at + length word.now ≤ length out.old }
-    ensures { Puts out.old at word.now out.new result }
+// A number in decimal.
+pub fn put_decimal(text: &mut Text, n: u64)
+    requires { length (rows_in text.old) + length (decimal n) ≤ 24576 }
+    ensures bytes { rows_in text.new ≡ rows_in text.old ++ decimal n }
+    ensures long { length (rows_in text.new) ≡ length (rows_in text.old) + length (decimal n) }
 {
-    let end = at + word.len();
-    out[at..end].copy_from_slice(word);
-    end
+    if 10 <= n {
+        put_decimal(text, n / 10);
+    }
+    put_word(text, &[b'0' + (n % 10) as u8]);
 }
 
 // A digit, a letter in upper case from ten on.
@@ -28,59 +40,21 @@ fn digit(d: u64) -> u8
     requires { d < 16 }
     ensures { result ≡ hex_digit d }
 {
-    if d < 10 { 48 + d as u8 } else { 55 + d as u8 }
-}
-
-// The k last digits of a number in a base up to 16, the last one first.
-fn put_digits(out: &mut [u8], at: usize, base: u64, k: usize, n: u64) -> usize
-    requires base_nonzero { (0 < base) × (base ≤ 16) }
-    requires k_in_bounds { at + k ≤ length out.old }
-    ensures { Puts out.old at (digits base k n) out.new result }
-{
-    let mut left = k;
-    let mut rest = n;
-    while 0 < left {
-        left -= 1;
-        out[at + left] = digit(rest % base);
-        rest /= base;
+    if d < 10 {
+        b'0' + d as u8
+    } else {
+        b'A' + (d - 10) as u8
     }
-    at + k
-}
-
-// How many digits a number has in decimal.
-fn decimal_count(n: u64) -> usize
-    ensures { result ≡ length (decimal n) }
-{
-    let mut count = 1;
-    let mut rest = n;
-    while 10 <= rest {
-        rest /= 10;
-        count += 1;
-    }
-    count
-}
-
-// A number in decimal.
-pub fn put_decimal(out: &mut [u8], at: usize, n: u64) -> usize
-    requires { at + length (decimal n) ≤ length out.old }
-    ensures { Puts out.old at (decimal n) out.new result }
-{
-    put_digits(out, at, 10, decimal_count(n), n)
-}
-
-// A number in decimal, and a byte behind it.
-pub fn put_number(out: &mut [u8], at: usize, n: u64, byte: u8) -> usize
-    requires { at + length (decimal n) < length out.old }
-    ensures { Puts out.old at (decimal n ++ (byte ∷ [])) out.new result }
-{
-    let end = put_decimal(out, at, n);
-    put(out, end, byte)
 }
 
 // The k last hexadecimal digits of a number.
-pub fn put_hex(out: &mut [u8], at: usize, k: usize, n: u64) -> usize
-    requires { at + k ≤ length out.old }
-    ensures { Puts out.old at (hex k n) out.new result }
+pub fn put_hex(text: &mut Text, k: usize, n: u64)
+    requires { length (rows_in text.old) + k ≤ 24576 }
+    ensures bytes { rows_in text.new ≡ rows_in text.old ++ hex k n }
+    ensures long { length (rows_in text.new) ≡ length (rows_in text.old) + k }
 {
-    put_digits(out, at, 16, k, n)
+    if 0 < k {
+        put_hex(text, k - 1, n / 16);
+        put_word(text, &[digit(n % 16)]);
+    }
 }

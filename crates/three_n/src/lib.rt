@@ -2,152 +2,137 @@
 
 #![tactic(auto)]
 
-ghost use Rattle.std.specs.Prelude.{◌≡◌, ◌≤◌, ◌<◌, length, take, leb};
+ghost use Rattle.std.specs.Prelude.{◌≡◌, ◌≤◌, length, leb};
+ghost use Rattle.std.specs.List.{list_any};
+ghost use mathlib.Core.List.{map};
 ghost use Rattle.chart.specs.declared.Stroke.{Stroke};
-ghost use Rattle.rules.specs.Answer.{rows_answer, refused};
-ghost use Rattle.rules.specs.Lists.{any};
-ghost use Rattle.rules.specs.Records.{Levels};
+ghost use Rattle.chart.specs.Numbers.{number_in};
+ghost use Rattle.rows.specs.Rows.{rows_in};
+ghost use Rattle.rules.specs.Answer.{rows_answer};
+ghost use Rattle.rules.specs.Records.{Levels, levels_of};
+ghost use Rattle.rules.specs.Marks.{order_zero, n_marks};
+ghost use Rattle.rules.specs.Refusals.{refuse, ends_outside};
 ghost use Rattle.rules.specs.Calls.{n_call};
-ghost use Rattle.tables.specs.Tables.{Fits};
-ghost use Rattle.three_n.specs.Gather.{Ready, GivesMarks, own_number};
+ghost use Rattle.mark_scan.specs.Scan.{TablesOf};
+ghost use Rattle.mark_hits.specs.Quotes.{quotes_of, quotes_refusal};
 
-use chart::{Chart, NMark, Stroke};
-use mark_rows::NRows;
-use tables::Counts;
+use chart::{Chart, Ground, NMark, Refusal, Stroke, ThirdMark, Zone};
+use mark_hits::Quotes;
+use rows::Rows;
+use tables::{Big, Superior};
+use zones::Tables;
+
+// What stands in a place that is not counted.
+const NO_MARK: NMark = NMark {
+    bar_index: 0,
+    is_buy: false,
+    order: 0,
+    price: 0.0,
+};
+
+const NO_THIRD: ThirdMark = ThirdMark {
+    bar_index: 0,
+    is_buy: false,
+    price: 0.0,
+    ground: Ground::Zone(0.0),
+};
 
 // ---- refusals
 
-// A refusal, with no rows.
-fn refusal(number: u8) -> NRows
-    requires { 0 < number }
-    ensures { rows_answer result.number result.count result.rows ≡ refused number }
+// Whether a stroke ends outside slices of this length.
+fn ends_outside(strokes: &[Stroke], len: usize) -> bool
+    ensures { result ≡ list_any (λ (s : Stroke). leb len s.end_bar) strokes.now }
 {
-    let none = NMark {
-        bar_index: 0,
-        price: 0.0,
-        is_buy: false,
-        order: 0,
-    };
-    NRows {
-        number,
-        count: 0,
-        rows: [none; 512],
-    }
+    strokes.iter().any(|s| len <= s.end_bar as usize)
 }
 
-// Whether one of the first n strokes ends outside slices of this length.
-fn ends_outside(strokes: [Stroke; 512], n: usize, len: usize) -> bool
-    requires { n ≤ 512 }
-    ensures { result ≡ any (λ (s : Stroke). leb len s.end_bar) (take n strokes) }
+// 8, 1, and 9 where a stroke ends outside the slices.
+fn own_refusal(chart: &Chart, quotes: &Quotes) -> Result<(), Refusal>
+    ensures { number_in result ≡ quotes_refusal (quotes_of quotes.now) (refuse (ends_outside (levels_of chart.now) (quotes_of quotes.now)) 9 0) }
 {
-    let mut i = 0usize;
-    while i < n {
-        let s = strokes[i];
-        if len <= s.end_bar as usize {
-            return true;
-        }
-        i += 1;
+    mark_hits::quotes_refusal(quotes)?;
+    if ends_outside(chart.strokes(), quotes.highs.len()) {
+        return Err(Refusal::Outside);
     }
-    false
-}
-
-// 8, 1, and 9 where one of the first n strokes ends outside the slices. A count above all strokes is refused with 21, and counts as all here.
-fn own_number(strokes: [Stroke; 512], n: usize, highs: &[f64], lows: &[f64]) -> u8
-    ensures { result ≡ own_number (take n strokes) (record { highs = highs.now; lows = lows.now }) }
-{
-    let number = mark_hits::quotes_refusal(highs, lows);
-    if number != 0 {
-        return number;
-    }
-    if ends_outside(strokes, tables::at_most(n, 512), highs.len()) {
-        return 9;
-    }
-    0
+    Ok(())
 }
 
 // ---- rows
 
-// The 3+N rows of a chart whose third marks are the first rows, `zeros` of them, by their keys: theirs, of order 0, then those of its
-// superiors, then those of its anchors.
-fn rows_by(
-    sups: &[[u16; 5]; 256],
-    scans: &[[u32; 4]; 256],
-    bars: &[[u16; 6]; 256],
-    prices: &[[f64; 3]; 256],
-    counts: Counts,
-    highs: &[f64],
-    lows: &[f64],
-    zeros: usize,
-    keys: &mut [u32],
-) -> NRows
-    requires fits { Fits counts × (length highs.now ≤ 0x1_0000) × (length lows.now ≤ 0x1_0000) × (length keys.old ≡ 513) }
-    requires ready { (c : Levels) × Ready c (record { highs = highs.now; lows = lows.now }) counts bars.now prices.now
-        sups.now scans.now zeros keys.old }
-    ensures { GivesMarks (record { highs = highs.now; lows = lows.now }) counts bars.now prices.now
-        sups.now scans.now zeros keys.old result }
+// A third mark has order 0.
+#[tactic(auto, unfolding(rules::specs::Marks::order_zero))]
+fn order_zero(mark: &ThirdMark) -> NMark
+    ensures { result ≡ order_zero mark.now }
 {
-    let mut orders = [0u32; 513];
-    let count = mark_superiors::superior_rows(
-        sups,
-        scans,
-        bars,
-        prices,
-        counts,
-        zeros,
-        keys,
-        &mut orders,
+    NMark {
+        bar_index: mark.bar_index,
+        is_buy: mark.is_buy,
+        order: 0,
+        price: mark.price,
+    }
+}
+
+// The rows of the third marks.
+fn zero_rows(thirds: &[ThirdMark]) -> Rows<NMark, 512>
+    requires { length thirds.now ≤ 512 }
+    ensures { rows_in result ≡ map order_zero thirds.now }
+{
+    let mut marks = Rows::new(NO_MARK);
+    for mark in thirds {
+        marks.push(order_zero(mark));
+    }
+    marks
+}
+
+// The rows of the marks of some levels, by their bigs, superiors and zones: those of the third marks, of order 0, then those of the
+// superiors, then those of the anchors.
+fn rows_of(
+    bigs: &[Big],
+    superiors: &[Superior],
+    zones: &[Zone],
+    quotes: &Quotes,
+) -> Rows<NMark, 512>
+    requires few { (length bigs.now ≤ 256) × (length zones.now ≤ 256) }
+    requires of_levels { (c : Levels) × TablesOf c bigs.now superiors.now zones.now }
+    ensures { (c : Levels) → TablesOf c bigs.now superiors.now zones.now → rows_in result ≡ n_marks c (quotes_of quotes.now) }
+{
+    let mut scans = Rows::new(mark_scan::NO_SCAN);
+    mark_scan::scans_of(bigs, superiors, zones, &mut scans);
+    let mut thirds = Rows::new(NO_THIRD);
+    mark_thirds::thirds_of(bigs, superiors, zones, scans.listed(), quotes, &mut thirds);
+    let mut marks = zero_rows(thirds.listed());
+    mark_superiors::superior_rows(
+        bigs,
+        superiors,
+        scans.listed(),
+        thirds.listed(),
+        quotes,
+        &mut marks,
     );
-    let side = mark_hits::side_of(sups, counts);
-    let limit = mark_anchors::anchor_limit(sups, counts, bars, prices, side.buy);
-    let all = mark_anchors::anchor_rows(
-        bars,
-        prices,
-        side,
-        limit,
-        highs,
-        lows,
-        count,
-        keys,
-        &mut orders,
-    );
-    mark_rows::rows_of(keys, &orders, all, highs, lows)
+    let side = mark_hits::side_of(superiors);
+    let limit = mark_anchors::anchor_limit(superiors, bigs, side.buy);
+    mark_anchors::anchor_rows(bigs, side, limit, quotes, &mut marks);
+    marks
 }
 
 // ---- the call
 
-// The 3+N marks of a chart's overlap zones and anchors: 21, then 8, 1, 9, and 11 where there are more than 256 zones. The chart is handed on
-// once, since each function that takes one copies it.
-pub fn bigseg_3n_marks_all_zhongshu(chart: Chart, highs: &[f64], lows: &[f64]) -> NRows
-    ensures { rows_answer result.number result.count result.rows ≡ n_call chart (record { highs = highs.now; lows = lows.now }) }
+// The 3+N marks of a chart's overlap zones and anchors: 21, then 8, 1, 9, and 11 where there are more than 256 zones.
+pub fn bigseg_3n_marks_all_zhongshu(
+    chart: &Chart,
+    highs: &[f64],
+    lows: &[f64],
+) -> Result<Rows<NMark, 512>, Refusal>
+    ensures { rows_answer result ≡ n_call chart.now (record { highs = highs.now; lows = lows.now }) }
 {
-    let strokes = chart.strokes;
-    let own = own_number(strokes, chart.stroke_count as usize, highs, lows);
-    let mut bars = [[0u16; 6]; 256];
-    let mut prices = [[0.0; 3]; 256];
-    let mut sups = [[0u16; 5]; 256];
-    let mut zb = [[0u16; 8]; 256];
-    let mut zp = [[0.0; 4]; 256];
-    let begun = zones::tables_of(
-        chart,
-        own,
-        &mut bars,
-        &mut prices,
-        &mut sups,
-        &mut zb,
-        &mut zp,
+    let quotes = Quotes { highs, lows };
+    let mut tables = Tables::new();
+    zones::tables_of(chart, own_refusal(chart, &quotes), &mut tables)?;
+    let marks = rows_of(
+        tables.bigs.listed(),
+        tables.superiors.listed(),
+        tables.zones.listed(),
+        &quotes,
     );
-    if begun.number != 0 {
-        return refusal(begun.number);
-    }
-    let counts = begun.counts;
-    let mut scans = [[0u32; 4]; 256];
-    mark_scan::scans_of(&bars, &prices, &sups, &zb, counts, &mut scans);
-    let mut keys = [0u32; 513];
-    let mut marks = [[0.0; 2]; 512];
-    let found = mark_thirds::thirds_of(
-        &bars, &prices, &sups, &scans, &zp, counts, highs, lows, &mut keys, &mut marks,
-    );
-    rows_by(
-        &sups, &scans, &bars, &prices, counts, highs, lows, found.all, &mut keys,
-    )
+    Ok(marks)
 }

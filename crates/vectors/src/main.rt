@@ -5,137 +5,140 @@
 
 #![tactic(auto)]
 
-ghost use Rattle.std.specs.Prelude.{◌≡◌, ◌+◌, ◌≤◌, ◌<◌, length};
+ghost use Rattle.std.specs.Prelude.{◌≡◌, length};
 
+use chart::{Chart, NO_STROKE, NO_TRIPLE, Refusal};
+use printing::Hex;
 use std::io;
 use std::io::{BufWriter, Write};
 
-fn room() -> [u8; 2097152]
-    ensures { 2097152 ≡ length result }
-{
-    [0; 2097152]
+// ---- numbers and parts in front of the other bytes
+
+// A u16 with the lowest byte first, and what stands behind it.
+fn split_u16(bytes: &[u8]) -> Option<(usize, &[u8])> {
+    let [a, b, behind @ ..] = bytes else {
+        return None;
+    };
+    Some((u16::from_le_bytes([*a, *b]) as usize, behind))
 }
 
-// A u32, with the lowest byte first.
-fn four_at(s: &[u8], i: usize) -> usize
-    requires { i + 4 ≤ length s.now }
-    ensures { result < 0x1_0000_0000 }
-{
-    let low = fields::two_at(s, i) as usize;
-    let high = fields::two_at(s, i + 2) as usize;
-    low + 65536 * high
+// A u32.
+fn split_u32(bytes: &[u8]) -> Option<(usize, &[u8])> {
+    let [a, b, c, d, behind @ ..] = bytes else {
+        return None;
+    };
+    Some((u32::from_le_bytes([*a, *b, *c, *d]) as usize, behind))
+}
+
+// As many bytes as a u32 in front of them says.
+fn split_part(bytes: &[u8]) -> Option<(&[u8], &[u8])> {
+    let (n, behind) = split_u32(bytes)?;
+    behind.split_at_checked(n)
+}
+
+// The first n places of a buffer, or all.
+fn cut<T>(buffer: &mut [T], n: usize) -> &mut [T] {
+    let n = n.min(buffer.len());
+    &mut buffer[..n]
 }
 
 // ---- a chart file and a bars file reported
 
 // The length of the chart file, a u32; then both files.
 fn report<W: Write>(out: &mut W, case: &[u8]) -> io::Result<()> {
-    if case.len() < 4 {
-        return Ok(());
+    match split_part(case) {
+        Some((chart, bars)) => sections::print_report(out, chart, bars),
+        None => Ok(()),
     }
-    let n = four_at(case, 0);
-    if case.len() - 4 < n {
-        return Ok(());
-    }
-    let end = 4 + n;
-    sections::print_report(out, &case[4..end], &case[end..])
 }
 
 // ---- a chart file read and written again
 
-// The first n bytes, behind a line with their number.
-fn print_first<W: Write>(out: &mut W, bytes: &[u8], n: usize) -> io::Result<()> {
-    if n <= bytes.len() {
-        printing::print_line(out, b"BYTES ", n as u64)?;
-        out.write_all(&bytes[..n])?;
-    }
-    Ok(())
+// Some bytes, behind a line with their number.
+fn print_bytes<W: Write>(out: &mut W, bytes: &[u8]) -> io::Result<()> {
+    writeln!(out, "BYTES {}", bytes.len())?;
+    out.write_all(bytes)
 }
 
+// A chart with nothing in it.
+fn no_chart() -> Chart {
+    Chart {
+        strokes: [NO_STROKE; 512],
+        stroke_count: 0,
+        segments: [NO_TRIPLE; 256],
+        segment_count: 0,
+        bigs: [NO_TRIPLE; 256],
+        big_count: 0,
+        superiors: [NO_TRIPLE; 256],
+        superior_count: 0,
+    }
+}
+
+// The chart of a file, and one with nothing in it where the file is refused.
+fn chart_in(file: &[u8]) -> Chart {
+    match chart_read::read_chart(file) {
+        Ok(loaded) => loaded.chart,
+        Err(_) => no_chart(),
+    }
+}
+
+// What is written of the chart; no bytes where that is refused.
 fn rewrite<W: Write>(out: &mut W, file: &[u8]) -> io::Result<()> {
-    let read = chart_read::read_chart(file);
-    let mut buffer = [0u8; 65536];
-    let done = chart_write::write_chart(read.chart, &mut buffer);
-    print_first(out, &buffer, done.count)
+    let chart = chart_in(file);
+    let mut buffer = [0; 65536];
+    let n = chart_write::write_chart(&chart, &mut buffer).unwrap_or(0);
+    print_bytes(out, &buffer[..n.min(65536)])
 }
 
 // ---- two chart files compared
 
-fn all_ones() -> [u8; 65536]
-    ensures { 65536 ≡ length result }
-{
-    [255; 65536]
+// Two sizes and the length of the first file, each a u16; then both files.
+fn split_compared(case: &[u8]) -> Option<(usize, usize, &[u8], &[u8])> {
+    let (first, behind) = split_u16(case)?;
+    let (second, behind) = split_u16(behind)?;
+    let (len, behind) = split_u16(behind)?;
+    let (one, two) = behind.split_at_checked(len)?;
+    Some((first, second, one, two))
 }
 
-// The answer for two charts, and both buffers whole.
+// The answer for two charts, and both buffers.
 fn print_same<W: Write>(
     out: &mut W,
-    a: chart::Chart,
-    b: chart::Chart,
+    a: &Chart,
+    b: &Chart,
     first: &mut [u8],
     second: &mut [u8],
 ) -> io::Result<()> {
-    let done = chart_trip::same_files(a, b, first, second);
-    printing::print_line(out, b"NUMBER ", done.number as u64)?;
-    printing::print_line(out, b"EQUAL ", done.same as u64)?;
-    print_first(out, &first[..], first.len())?;
-    print_first(out, &second[..], second.len())
+    let same = chart_trip::same_files(a, b, first, second);
+    writeln!(out, "NUMBER {}", number_of(same))?;
+    writeln!(out, "EQUAL {}", same.unwrap_or(false) as u8)?;
+    print_bytes(out, first)?;
+    print_bytes(out, second)
 }
 
-// The charts, written into buffers of m and n bytes.
-fn compare_files<W: Write>(
-    out: &mut W,
-    one: &[u8],
-    two: &[u8],
-    m: usize,
-    n: usize,
-) -> io::Result<()>
-    requires { (m ≤ 65536) × (n ≤ 65536) }
-{
-    let a = chart_read::read_chart(one);
-    let b = chart_read::read_chart(two);
-    let mut first = all_ones();
-    let mut second = all_ones();
-    print_same(out, a.chart, b.chart, &mut first[..m], &mut second[..n])
+// The number of a refusal, 0 where there is none.
+fn number_of<T: Copy>(answer: Result<T, Refusal>) -> u8 {
+    match answer {
+        Ok(_) => 0,
+        Err(refusal) => refusal.number(),
+    }
 }
 
-// The sizes of two buffers and the length of the first file, each a u16; then both files.
+// The charts of two files, written into buffers of the two sizes.
 fn compare<W: Write>(out: &mut W, case: &[u8]) -> io::Result<()> {
-    if case.len() < 6 {
+    let Some((first, second, one, two)) = split_compared(case) else {
         return Ok(());
-    }
-    let m = fields::two_at(case, 0) as usize;
-    let n = fields::two_at(case, 2) as usize;
-    let end = 6 + fields::two_at(case, 4) as usize;
-    if case.len() < end {
-        return Ok(());
-    }
-    compare_files(out, &case[6..end], &case[end..], m, n)
+    };
+    print_same(
+        out,
+        &chart_in(one),
+        &chart_in(two),
+        cut(&mut [255; 65536], first),
+        cut(&mut [255; 65536], second),
+    )
 }
 
 // ---- a bars file read and written again
-
-fn bars_room() -> [u8; 1310740]
-    ensures { 1310740 ≡ length result }
-{
-    [255; 1310740]
-}
-
-fn least(a: usize, b: usize) -> usize
-    ensures { (result ≤ a) × (result ≤ b) }
-{
-    if a < b { a } else { b }
-}
-
-// The first n highs and lows, or as many as there are, a line each.
-fn print_quotes<W: Write>(out: &mut W, highs: &[f64], lows: &[f64], n: usize) -> io::Result<()> {
-    for i in 0..least(n, least(highs.len(), lows.len())) {
-        printing::print_price(out, highs[i])?;
-        out.write_all(&printing::hex_of(lows[i]))?;
-        out.write_all(b"\n")?;
-    }
-    Ok(())
-}
 
 // The answer for a bars file and slices, and the bars with the place behind them.
 fn print_read<W: Write>(
@@ -144,11 +147,15 @@ fn print_read<W: Write>(
     highs: &mut [f64],
     lows: &mut [f64],
 ) -> io::Result<()> {
-    let read = bars_read::read_bars(file, highs, lows);
-    printing::print_line(out, b"NUMBER ", read.number as u64)?;
-    printing::print_line(out, b"PLACE ", read.place as u64)?;
-    printing::print_line(out, b"BARS ", read.bars as u64)?;
-    print_quotes(out, &highs[..], &lows[..], least(read.bars, 65536) + 1)
+    let (number, place, bars) = match bars_read::read_bars(file, highs, lows) {
+        Ok(bars) => (0, 0, bars),
+        Err(refused) => (refused.refusal.number(), refused.place, 0),
+    };
+    writeln!(out, "NUMBER {number}\nPLACE {place}\nBARS {bars}")?;
+    for (high, low) in highs.iter().zip(lows.iter()).take(bars.saturating_add(1)) {
+        writeln!(out, "{} {}", Hex(*high), Hex(*low))?;
+    }
+    Ok(())
 }
 
 // The answer for slices and a buffer, and that buffer whole.
@@ -158,66 +165,89 @@ fn print_written<W: Write>(
     lows: &[f64],
     buffer: &mut [u8],
 ) -> io::Result<()> {
-    let done = bars_write::write_bars(highs, lows, buffer);
-    printing::print_line(out, b"NUMBER ", done.number as u64)?;
-    printing::print_line(out, b"COUNT ", done.count as u64)?;
-    print_first(out, &buffer[..], buffer.len())
+    let count = bars_write::write_bars(highs, lows, buffer);
+    writeln!(out, "NUMBER {}", number_of(count))?;
+    writeln!(out, "COUNT {}", count.unwrap_or(0))?;
+    print_bytes(out, buffer)
 }
 
-// The first m highs and n lows, written into a buffer of so many bytes.
-fn write_bars<W: Write>(
-    out: &mut W,
-    highs: &[f64],
-    lows: &[f64],
-    m: usize,
-    n: usize,
+// How many highs and lows are read into, how many of each are written, and the size of the buffer; the high and the low that stand in every place
+// before.
+#[derive(Clone, Copy)]
+struct Trip {
+    highs_read: usize,
+    lows_read: usize,
+    highs_written: usize,
+    lows_written: usize,
     size: usize,
-) -> io::Result<()> {
-    let mut buffer = bars_room();
-    let k = printing::filled(size, 1310740);
-    let i = printing::filled(m, highs.len());
-    let j = printing::filled(n, lows.len());
-    print_written(out, &highs[..i], &lows[..j], &mut buffer[..k])
+    high: f64,
+    low: f64,
 }
 
-// A file read into the first m highs and n lows.
-fn read_bars<W: Write>(
+// Those, each number a u32, and the file behind them.
+fn split_trip(case: &[u8]) -> Option<(Trip, &[u8])> {
+    let (highs_read, behind) = split_u32(case)?;
+    let (lows_read, behind) = split_u32(behind)?;
+    let (highs_written, behind) = split_u32(behind)?;
+    let (lows_written, behind) = split_u32(behind)?;
+    let (size, behind) = split_u32(behind)?;
+    if behind.len() < 16 {
+        return None;
+    }
+    let trip = Trip {
+        highs_read,
+        lows_read,
+        highs_written,
+        lows_written,
+        size,
+        high: fields::price_at(behind, 0),
+        low: fields::price_at(behind, 8),
+    };
+    Some((trip, &behind[16..]))
+}
+
+// A file read into slices, and slices written into a buffer, all of them cut to the sizes.
+fn print_trip<W: Write>(
     out: &mut W,
+    trip: Trip,
     file: &[u8],
     highs: &mut [f64],
     lows: &mut [f64],
-    m: usize,
-    n: usize,
+    buffer: &mut [u8],
 ) -> io::Result<()> {
-    let i = printing::filled(m, highs.len());
-    let j = printing::filled(n, lows.len());
-    print_read(out, file, &mut highs[..i], &mut lows[..j])
+    print_read(
+        out,
+        file,
+        cut(highs, trip.highs_read),
+        cut(lows, trip.lows_read),
+    )?;
+    print_written(
+        out,
+        cut(highs, trip.highs_written),
+        cut(lows, trip.lows_written),
+        cut(buffer, trip.size),
+    )
 }
 
-// How many highs and lows are read into, how many of each are written, and the buffer's size, each a u32; the high and the low that stand in every place
-// before; then the file.
+// As many bytes as 65,537 bars take. A function of its own, since the prover is slow where it sees so long an array.
+fn bars_room() -> [u8; 1310740]
+    ensures { 1310740 ≡ length result }
+{
+    [255; 1310740]
+}
+
 fn trip_bars<W: Write>(out: &mut W, case: &[u8]) -> io::Result<()> {
-    if case.len() < 36 {
-        return Ok(());
+    match split_trip(case) {
+        Some((trip, file)) => print_trip(
+            out,
+            trip,
+            file,
+            &mut [trip.high; 65537],
+            &mut [trip.low; 65537],
+            &mut bars_room(),
+        ),
+        None => Ok(()),
     }
-    let mut highs = [fields::price_at(case, 20); 65537];
-    let mut lows = [fields::price_at(case, 28); 65537];
-    read_bars(
-        out,
-        &case[36..],
-        &mut highs,
-        &mut lows,
-        four_at(case, 0),
-        four_at(case, 4),
-    )?;
-    write_bars(
-        out,
-        &highs,
-        &lows,
-        four_at(case, 8),
-        four_at(case, 12),
-        four_at(case, 16),
-    )
 }
 
 // ---- cases
@@ -226,63 +256,56 @@ fn trip_bars<W: Write>(out: &mut W, case: &[u8]) -> io::Result<()> {
 fn print_case<W: Write>(out: &mut W, kind: u8, number: u64, case: &[u8]) -> io::Result<()> {
     match kind {
         1 => {
-            printing::print_line(out, b"REPORT ", number)?;
+            writeln!(out, "REPORT {number}")?;
             report(out, case)
         }
         2 => {
-            printing::print_line(out, b"REWRITE ", number)?;
+            writeln!(out, "REWRITE {number}")?;
             rewrite(out, case)
         }
         3 => {
-            printing::print_line(out, b"REPLAY ", number)?;
+            writeln!(out, "REPLAY {number}")?;
             replay_lines::print_replay(out, case)
         }
         4 => {
-            printing::print_line(out, b"SAME ", number)?;
+            writeln!(out, "SAME {number}")?;
             compare(out, case)
         }
         5 => {
-            printing::print_line(out, b"BARS ", number)?;
+            writeln!(out, "BARS {number}")?;
             trip_bars(out, case)
         }
-        _ => printing::print_line(out, b"UNKNOWN ", number),
+        _ => writeln!(out, "UNKNOWN {number}"),
     }
-}
-
-// Where the case that starts at `at` ends: behind the end of s, if it is cut short.
-fn end_of(s: &[u8], at: usize) -> usize
-    requires { (at ≤ length s.now) × (length s.now < 0x1000_0000) }
-    ensures { at + 5 ≤ result }
-{
-    if s.len() - at < 5 {
-        return at + 5;
-    }
-    at + 5 + four_at(s, at + 1)
 }
 
 // Each case of the stream; a line for one that is cut short.
-fn print_cases<W: Write>(out: &mut W, input: &[u8]) -> io::Result<()>
-    requires { length input.now < 0x1000_0000 }
-{
-    let mut at = 0usize;
-    let mut i = 0u64;
-    while at < input.len() {
-        let end = end_of(input, at);
-        if input.len() < end {
-            return printing::print_line(out, b"CUT ", i);
-        }
-        let from = at + 5;
-        print_case(out, input[at], i, &input[from..end])?;
-        at = end;
-        i += 1;
+fn print_cases<W: Write>(out: &mut W, input: &[u8]) -> io::Result<()> {
+    let mut behind = input;
+    // each case says where the next one begins
+    for number in 0..u64::MAX {
+        let [kind, part @ ..] = behind else {
+            return Ok(());
+        };
+        let Some((case, next)) = split_part(part) else {
+            return writeln!(out, "CUT {number}");
+        };
+        print_case(out, *kind, number, case)?;
+        behind = next;
     }
     Ok(())
 }
 
+fn room() -> [u8; 2097152]
+    ensures { 2097152 ≡ length result }
+{
+    [0; 2097152]
+}
+
 fn main(rt: HostRuntime) -> io::Result<()> {
-    let mut buffer = room();
-    let n = files::read_full(&mut rt.reader(), &mut buffer);
+    let mut input = room();
+    let (Ok(n) | Err(n)) = files::read_full(&mut rt.reader(), &mut input);
     let mut out = BufWriter::new(rt.alloc(), io::writer(&rt))?;
-    print_cases(&mut out, &buffer[..n])?;
+    print_cases(&mut out, &input[..n])?;
     out.flush()
 }

@@ -1,3 +1,3 @@
-pub mod Laws
-pub mod Tables
+pub mod Scan
+pub mod Level
 pub mod Call

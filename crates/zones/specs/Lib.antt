@@ -1,2 +1,2 @@
-pub mod Runs
-pub mod Filled
+pub mod Overlap
+pub mod Tables

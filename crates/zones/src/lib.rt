@@ -1,22 +1,26 @@
-// The overlap rule, once for every level: the zones of owners over the records of a level, which stand in tables; what a call on a chart
-// begins with; and the zone call.
+// The overlap rule, once for every level: the zones of owners over the records of a level; what a call on a chart begins with; and the zone call.
 
 #![tactic(auto)]
 
-ghost use Rattle.std.specs.Prelude.{◌≡◌, cond, ◌≤◌, ◌<◌, ◌+◌, length};
-ghost use Rattle.rules.specs.Answer.{refused, given, rows_answer};
+ghost use Rattle.std.specs.Prelude.{◌≡◌, ◌≤◌, ◌<◌, ◌+◌, ◌++◌, ◌∷◌, [], List, OnOk, cond, length};
+ghost use Rattle.chart.specs.Numbers.{number_in};
+ghost use Rattle.chart.specs.Table.{option_of};
+ghost use Rattle.rows.specs.Rows.{rows_in};
+ghost use Rattle.rules.specs.Answer.{answer_of, rows_answer};
 ghost use Rattle.rules.specs.Records.{levels_of};
 ghost use Rattle.rules.specs.Zones.{low_bar_of, begin, joins, join};
 ghost use Rattle.rules.specs.Calls.{zones_call};
-ghost use Rattle.tables.specs.Rows.{Wide};
-ghost use Rattle.tables.specs.Tables.{owner_in, zones_in, Tables};
-ghost use Rattle.zones.specs.Runs.{Takes};
-ghost use Rattle.zones.specs.Filled.{OwnerZones, AllZones, call_number};
+ghost use Rattle.zones.specs.Overlap.{span_of, opposing_in, members_in, zones_in, capped, Takes, Overlaps};
+ghost use Rattle.zones.specs.Tables.{call_number, Tabled};
 
-use chart::{Chart, NO_ZONE, Range, Span, Zone};
-use tables::Counts;
+use chart::{Chart, NO_ZONE, Range, Refusal, Span, Triple, Zone};
+use rows::Rows;
+use tables::{Big, NO_BIG, NO_SUPERIOR, Superior};
+
+// ---- a run
 
 // A run of one, of owner h.
+#[tactic(auto, unfolding(rules::specs::Zones::begin))]
 fn begin(h: u16, index: u16, span: Span) -> Zone
     ensures { result ≡ begin h (record { index = index; span = span }) }
 {
@@ -36,13 +40,15 @@ fn begin(h: u16, index: u16, span: Span) -> Zone
 }
 
 // Whether the next one joins the run: two must overlap, and a later one may touch.
+#[tactic(auto, unfolding(rules::specs::Zones::joins))]
 fn joins(z: Zone, s: Span) -> bool
     ensures { result ≡ joins z s }
 {
     if z.members == 1 {
-        return price::higher(z.zd, s.low) < price::lower(z.zg, s.high);
+        price::higher(z.zd, s.low) < price::lower(z.zg, s.high)
+    } else {
+        s.low <= z.zg && z.zd <= s.high
     }
-    s.low <= z.zg && z.zd <= s.high
 }
 
 // The edge that the second member fixes, and that later ones leave.
@@ -53,19 +59,21 @@ fn fixed(second: bool, narrowed: f64, edge: f64) -> f64
 }
 
 // Of two prices with their bars, the bar of the lower one, and of equal prices the smaller bar. With the prices exchanged, that of the higher.
+#[tactic(auto, unfolding(rules::specs::Zones::low_bar_of))]
 fn low_bar(p: f64, a: u16, q: f64, b: u16) -> u16
     ensures { result ≡ low_bar_of p a q b }
 {
     if p < q {
-        return a;
+        a
+    } else if q < p {
+        b
+    } else {
+        a.min(b)
     }
-    if q < p {
-        return b;
-    }
-    if a < b { a } else { b }
 }
 
 // The run with one member more.
+#[tactic(auto, unfolding(rules::specs::Zones::join, rules::specs::Zones::low_bar_of, rules::specs::Zones::high_bar_of))]
 fn join(z: Zone, s: Span) -> Zone
     requires { z.members < 65535 }
     ensures { result ≡ join z s }
@@ -86,245 +94,156 @@ fn join(z: Zone, s: Span) -> Zone
     }
 }
 
-// The scan behind a member: the run, and whether the run before it is a zone now.
+// A member taken: the run that is under way now, and the one before it where that is a zone now.
 #[derive(Clone, Copy)]
 struct Taken {
     run: Zone,
-    closed: bool,
+    closed: Option<Zone>,
 }
 
-// A member of owner h is taken: it joins the run, or begins the next.
-fn take_member(run: Zone, begun: bool, h: u16, index: u16, span: Span) -> Taken
-    requires { run.members < 65535 }
-    ensures members_bound { result.run.members ≤ run.members + 1 }
-    ensures takes { Takes h begun run (record { index = index; span = span }) result.closed result.run }
+// A member of owner h is taken: it joins the run that is under way, or begins the next.
+#[tactic(auto, unfolding(crate::specs::Overlap::runs_from, rules::specs::Zones::runs, rules::specs::Zones::cut))]
+fn take_member(run: Option<Zone>, h: u16, index: u16, span: Span) -> Taken
+    requires { members_in run < 65535 }
+    ensures members { result.run.members ≤ members_in run + 1 }
+    ensures takes { Takes h run (record { index = index; span = span }) result }
 {
-    if !begun {
+    let Some(run) = run else {
         return Taken {
             run: begin(h, index, span),
-            closed: false,
+            closed: None,
         };
-    }
+    };
     if joins(run, span) {
         return Taken {
             run: join(run, span),
-            closed: false,
+            closed: None,
         };
     }
     Taken {
         run: begin(run.sup_idx, index, span),
-        closed: true,
+        closed: Some(run),
     }
 }
 
-// The zones of owner h behind the first k rows; how many there are then, and 257 where there is no room.
+// ---- owners
+
+// The range of a record that opposes an owner of this direction.
+#[tactic(auto, unfolding(crate::specs::Overlap::span_of))]
+fn opposing(member: &Big, direction: u8) -> Option<Span>
+    ensures { option_of result ≡ span_of direction member.now }
+{
+    match member.range {
+        Range::Found(span) if member.direction != direction => Some(span),
+        _ => None,
+    }
+}
+
+// One zone more, where there is room.
+#[tactic(auto, unfolding(crate::specs::Overlap::capped, rules::specs::Answer::answered, rules::specs::Refusals::refuse))]
+fn put(zone: Zone, zones: &mut Rows<Zone, 256>) -> Result<(), Refusal>
+    ensures { answer_of (λ u. rows_in zones.new) result ≡ capped (rows_in zones.old ++ zone ∷ []) }
+{
+    if zones.count == 256 {
+        return Err(Refusal::Zones);
+    }
+    zones.push(zone);
+    Ok(())
+}
+
+// The zones of owner h behind those that are there. An owner whose last record is not there is skipped.
 fn owner_zones(
     h: u16,
-    row: [u16; 5],
-    bars: &[[u16; 6]; 256],
-    prices: &[[f64; 3]; 256],
-    k: usize,
-    zb: &mut [[u16; 8]; 256],
-    zp: &mut [[f64; 4]; 256],
-) -> usize
-    requires { (k ≤ 256) × ((owner_in row).last < 256) × Wide zb.old zp.old }
-    ensures upper_bound { (result ≤ 257) × Wide zb.new zp.new }
-    ensures owner_zones { OwnerZones h row bars.now prices.now k zb.old zp.old result zb.new zp.new }
+    owner: Triple,
+    members: &[Big],
+    zones: &mut Rows<Zone, 256>,
+) -> Result<(), Refusal>
+    requires { length members.now ≤ 256 }
+    ensures { answer_of (λ u. rows_in zones.new) result ≡ capped (rows_in zones.old ++ zones_in members.now h owner) }
 {
-    let direction = row[0];
-    let last = row[2] as usize;
-    let mut count = k;
-    let mut run = NO_ZONE;
-    let mut begun = false;
-    let mut at = row[1] as usize;
-    while at <= last {
-        let i = at;
-        at += 1;
-        if tables::way_at(bars, i) == direction {
-            continue;
-        }
-        let Range::Found(span) = tables::range_at(bars, prices, i) else {
+    let Some(own) = members.get(owner.first as usize..owner.last as usize + 1) else {
+        return Ok(());
+    };
+    let mut run = None;
+    for (i, member) in own.iter().enumerate() {
+        let Some(span) = opposing(member, owner.direction) else {
             continue;
         };
-        let next = take_member(run, begun, h, i as u16, span);
-        let before = run;
-        run = next.run;
-        begun = true;
-        if !next.closed {
-            continue;
+        let taken = take_member(run, h, owner.first + i as u16, span);
+        if let Some(zone) = taken.closed {
+            put(zone, zones)?;
         }
-        if count == 256 {
-            return 257;
-        }
-        tables::put_zone(before, count, zb, zp);
-        count += 1;
+        run = Some(taken.run);
     }
-    if !begun {
-        return count;
+    match run {
+        Some(zone) => put(zone, zones),
+        None => Ok(()),
     }
-    if count == 256 {
-        return 257;
-    }
-    tables::put_zone(run, count, zb, zp);
-    count + 1
 }
 
-// The zones of the n owners over the level of m records in the tables; how many they are, and 257 where there are more than 256.
+// The zones of these owners over the records of a level.
 pub fn overlap(
-    sups: &[[u16; 5]; 256],
-    n: usize,
-    bars: &[[u16; 6]; 256],
-    prices: &[[f64; 3]; 256],
-    m: usize,
-    zb: &mut [[u16; 8]; 256],
-    zp: &mut [[f64; 4]; 256],
-) -> usize
-    requires { (n ≤ 256) × (m ≤ 256) × Wide zb.old zp.old }
-    ensures upper_bound { (result ≤ 257) × Wide zb.new zp.new }
-    ensures all_zones { AllZones n sups.now m bars.now prices.now result zb.new zp.new }
+    owners: &[Triple],
+    members: &[Big],
+    zones: &mut Rows<Zone, 256>,
+) -> Result<(), Refusal>
+    requires { (length owners.now ≤ 256) × (length members.now ≤ 256) }
+    ensures { Overlaps owners.now members.now (answer_of (λ u. rows_in zones.new) result) }
 {
-    let mut count = 0usize;
-    let mut h = 0usize;
-    while h < n {
-        let owner = sups[h];
-        let i = h as u16;
-        h += 1;
-        if m <= tables::wide(owner[2]) {
-            continue;
-        }
-        count = owner_zones(i, owner, bars, prices, count, zb, zp);
-        if count == 257 {
-            return 257;
-        }
+    zones.count = 0;
+    for (h, owner) in owners.iter().enumerate() {
+        owner_zones(h as u16, *owner, members, zones)?;
     }
-    count
+    Ok(())
 }
 
 // ---- what a call on a chart begins with
 
-// The number that refuses the call, or 0, and how many rows of the tables count.
-#[derive(Clone, Copy)]
-pub struct Begun {
-    pub number: u8,
-    pub counts: Counts,
+// The bigs, the superiors and the overlap zones of a chart.
+#[derive(Drop)]
+pub struct Tables {
+    pub bigs: Rows<Big, 256>,
+    pub superiors: Rows<Superior, 256>,
+    pub zones: Rows<Zone, 256>,
 }
 
-// Refused, with no rows.
-fn no_tables(number: u8) -> Begun
-    ensures { result.number ≡ number }
-{
-    Begun {
-        number,
-        counts: Counts {
-            bigs: 0,
-            superiors: 0,
-            zones: 0,
-        },
+impl Tables {
+    // Those of no chart yet.
+    pub fn new() -> Tables
+        ensures { (rows_in result.bigs ≡ []) × (rows_in result.superiors ≡ []) × (rows_in result.zones ≡ []) }
+    {
+        Tables {
+            bigs: Rows::new(NO_BIG),
+            superiors: Rows::new(NO_SUPERIOR),
+            zones: Rows::new(NO_ZONE),
+        }
     }
 }
 
-// 21, then the call's own number, where it has one, then 11; and the tables of the chart's bigs, superiors and zones.
+// 21, then the call's own refusal, then 11; and the tables of the chart.
 pub fn tables_of(
-    chart: Chart,
-    own: u8,
-    bars: &mut [[u16; 6]; 256],
-    prices: &mut [[f64; 3]; 256],
-    sups: &mut [[u16; 5]; 256],
-    zb: &mut [[u16; 8]; 256],
-    zp: &mut [[f64; 4]; 256],
-) -> Begun
-    requires { Wide bars.old prices.old × Wide zb.old zp.old × (length sups.old ≡ 256) }
-    ensures number_value { result.number ≡ call_number chart own }
-    ensures tables { result.number ≡ 0
-        → Tables (levels_of chart) result.counts bars.new prices.new sups.new zb.new zp.new }
-    ensures wide { Wide zb.new zp.new }
+    chart: &Chart,
+    own: Result<(), Refusal>,
+    tables: &mut Tables,
+) -> Result<(), Refusal>
+    ensures number { number_in result ≡ call_number chart.now (number_in own) }
+    ensures tables { OnOk result (Tabled (levels_of chart.now) tables.new) }
 {
-    if tables::bigs_of(chart, bars, prices) {
-        return no_tables(21);
-    }
-    if own != 0 {
-        return no_tables(own);
-    }
-    let superiors = chart.superiors;
-    let n = chart.superior_count as usize;
-    let m = chart.big_count as usize;
-    tables::superiors_of(superiors, n, bars, m, sups);
-    let count = overlap(sups, n, bars, prices, m, zb, zp);
-    if 256 < count {
-        return no_tables(11);
-    }
-    Begun {
-        number: 0,
-        counts: Counts {
-            bigs: m,
-            superiors: n,
-            zones: count,
-        },
-    }
+    tables::bigs_of(chart, &mut tables.bigs)?;
+    own?;
+    tables::superiors_of(chart, &mut tables.superiors);
+    overlap(chart.superiors(), tables.bigs.listed(), &mut tables.zones)
 }
 
 // ---- the zone call
 
-// The answer of a zone call: a number, and where it is 0 the first `count` rows. The rows stand first: behind the numbers they would
-// have a gap before them, and the compiler would then copy them once more.
-#[derive(Clone, Copy)]
-pub struct ZoneRows {
-    pub rows: [Zone; 256],
-    pub number: u8,
-    pub count: u16,
-}
-
-// A refusal, with no rows.
-pub fn refusal(number: u8) -> ZoneRows
-    requires { 0 < number }
-    ensures { rows_answer result.number result.count result.rows ≡ refused number }
-{
-    ZoneRows {
-        number: number,
-        count: 0,
-        rows: [NO_ZONE; 256],
-    }
-}
-
-// The first n rows of the tables as the answer of a call.
-pub fn rows_of(n: usize, zb: &[[u16; 8]; 256], zp: &[[f64; 4]; 256]) -> ZoneRows
-    requires { (n ≤ 256) × Wide zb.now zp.now }
-    ensures { rows_answer result.number result.count result.rows ≡ given (zones_in n zb.now zp.now) }
-{
-    let mut rows = [NO_ZONE; 256];
-    let mut i = 0usize;
-    while i < n {
-        rows[i] = tables::zone_at(zb, zp, i);
-        i += 1;
-    }
-    ZoneRows {
-        rows,
-        number: 0,
-        count: n as u16,
-    }
-}
-
 // The overlap zones of a chart: 21, then 11 where there are more than 256.
-pub fn detect_bigseg_zhongshus_by_overlap(chart: Chart) -> ZoneRows
-    ensures { rows_answer result.number result.count result.rows ≡ zones_call chart }
+pub fn detect_bigseg_zhongshus_by_overlap(chart: &Chart) -> Result<Rows<Zone, 256>, Refusal>
+    ensures { rows_answer result ≡ zones_call chart.now }
 {
-    let mut bars = [[0u16; 6]; 256];
-    let mut prices = [[0.0; 3]; 256];
-    let mut sups = [[0u16; 5]; 256];
-    let mut zb = [[0u16; 8]; 256];
-    let mut zp = [[0.0; 4]; 256];
-    let begun = tables_of(
-        chart,
-        0,
-        &mut bars,
-        &mut prices,
-        &mut sups,
-        &mut zb,
-        &mut zp,
-    );
-    if begun.number != 0 {
-        return refusal(begun.number);
-    }
-    let counts = begun.counts;
-    rows_of(counts.zones, &zb, &zp)
+    let mut bigs = Rows::new(NO_BIG);
+    tables::bigs_of(chart, &mut bigs)?;
+    let mut zones = Rows::new(NO_ZONE);
+    overlap(chart.superiors(), bigs.listed(), &mut zones)?;
+    Ok(zones)
 }

@@ -1,5 +1,5 @@
-use Prim.Native.Nat.{◌≤◌, ◌-◌}
-use lib.ListN.{length, drop}
+use Prim.Native.Nat.{◌*◌}
+use lib.ListN.{drop}
 use Rattle.rules.specs.Lists.{each}
 use Rattle.rules.specs.BarsFile.{bar_bytes, bars_from, bars_written}
 use Rattle.laws.proofs.FilePut.{Writing}
@@ -7,8 +7,5 @@ use Rattle.bars_write.proofs.put_bars.Given as goal
 
 abbrev pub invariant-loop-i : goal.invariant-loop-i
 invariant-loop-i l =
-    (l.i ≤ length l.highs)
-    × Writing 0 (bars_written (record { highs = l.highs; lows = l.lows })) l.initial.buffer l.end (each bar_bytes (bars_from l.i (drop l.i l.highs) (drop l.i l.lows))) l.buffer
-
-abbrev pub decreases-loop-i : goal.decreases-loop-i
-decreases-loop-i l = length l.highs - l.i
+    Writing 0 (bars_written (record { highs = l.highs; lows = l.lows })) l.initial.buffer (20 * l.i)
+    (each bar_bytes (bars_from l.i (drop l.i l.highs) (drop l.i l.lows))) l.buffer

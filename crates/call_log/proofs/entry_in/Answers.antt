@@ -9,59 +9,59 @@ use Rattle.rules.specs.Text.{ascii}
 use Rattle.rules.specs.Machine.{add_stroke, add_segment, add_big, add_superior, lengthen, withdraw, derive_bigs, derive_superiors}
 use Rattle.laws.proofs.FileCode.{one_at}
 use Rattle.call_log.specs.Log.{call, forms, form_of}
-use Rattle.call_log.specs.Entries.{width_by, entry_by}
-use Rattle.call_log.proofs.Forms.{rolled_in, wide-as, entry-as, no_form, no_entry}
+use Rattle.call_log.specs.Entries.{Long, entry_by}
+use Rattle.call_log.proofs.Forms.{rolled_in, long-as, entry-as, no_fields}
 use Rattle.call_log.proofs.entry_in.Goals as goal
 
 pub bounds-s-21 : goal.bounds-s-21
-unfolding width_by form_of forms ascii
-bounds-s-21 c = wide-as _ 83 c.in-83.is _ c.requires
+unfolding Long form_of forms ascii
+bounds-s-21 c = long-as _ 83 c.in-83.is _ c.requires
 
 pub stroke_in-requires : goal.stroke_in-requires
-unfolding width_by form_of forms ascii
-stroke_in-requires c = omega (arith, wide-as _ 83 c.in-83.is _ c.requires)
+unfolding Long form_of forms ascii
+stroke_in-requires c = omega (arith, long-as _ 83 c.in-83.is _ c.requires)
 
 pub triple_in-requires : goal.triple_in-requires
-unfolding width_by form_of forms ascii
-triple_in-requires c = wide-as _ 71 c.in-71.is _ c.requires
+unfolding Long form_of forms ascii
+triple_in-requires c = long-as _ 71 c.in-71.is _ c.requires
 
 pub triple_in-requires-in-66 : goal.triple_in-requires-in-66
-unfolding width_by form_of forms ascii
-triple_in-requires-in-66 c = wide-as _ 66 c.in-66.is _ c.requires
+unfolding Long form_of forms ascii
+triple_in-requires-in-66 c = long-as _ 66 c.in-66.is _ c.requires
 
 pub triple_in-requires-in-85 : goal.triple_in-requires-in-85
-unfolding width_by form_of forms ascii
-triple_in-requires-in-85 c = wide-as _ 85 c.in-85.is _ c.requires
+unfolding Long form_of forms ascii
+triple_in-requires-in-85 c = long-as _ 85 c.in-85.is _ c.requires
 
 pub two_at-requires : goal.two_at-requires
-unfolding width_by form_of forms ascii
-two_at-requires c = wide-as _ 76 c.in-76.is _ c.requires
+unfolding Long form_of forms ascii
+two_at-requires c = long-as _ 76 c.in-76.is _ c.requires
 
 pub bounds-s-0 : goal.bounds-s-0
-unfolding width_by form_of forms ascii
-bounds-s-0 c = wide-as _ 87 c.in-87.is _ c.requires
+unfolding Long form_of forms ascii
+bounds-s-0 c = long-as _ 87 c.in-87.is _ c.requires
 
 pub bounds-s-0-in-68 : goal.bounds-s-0-in-68
-unfolding width_by form_of forms ascii
-bounds-s-0-in-68 c = wide-as _ 68 c.in-68.is _ c.requires
+unfolding Long form_of forms ascii
+bounds-s-0-in-68 c = long-as _ 68 c.in-68.is _ c.requires
 
 pub bounds-s-0-in-69 : goal.bounds-s-0-in-69
-unfolding width_by form_of forms ascii
-bounds-s-0-in-69 c = wide-as _ 69 c.in-69.is _ c.requires
+unfolding Long form_of forms ascii
+bounds-s-0-in-69 c = long-as _ 69 c.in-69.is _ c.requires
 
 pub price_at-requires : goal.price_at-requires
-unfolding width_by form_of forms ascii
-price_at-requires c = omega (arith, wide-as _ 81 c.in-81.is _ c.requires)
+unfolding Long form_of forms ascii
+price_at-requires c = omega (arith, long-as _ 81 c.in-81.is _ c.requires)
 
 pub price_at-requires-in-81 : goal.price_at-requires-in-81
-unfolding width_by form_of forms ascii
-price_at-requires-in-81 c = omega (arith, wide-as _ 81 c.in-81.is _ c.requires)
+unfolding Long form_of forms ascii
+price_at-requires-in-81 c = omega (arith, long-as _ 81 c.in-81.is _ c.requires)
 
 pub returns-in-83 : goal.returns-in-83
-unfolding width_by entry_by form_of forms ascii
+unfolding Long entry_by form_of forms ascii
 returns-in-83 c =
     let e = c.in-83.is in
-    let long = wide-as _ 83 e _ c.requires in
+    let long = long-as _ 83 e _ c.requires in
     ap (λ (s : Stroke). some (call (add_stroke s))) (rolled_in _ _ long c.stroke_in.ensures) ∙ entry-as _ 83 e _
 
 pub returns-in-71 : goal.returns-in-71
@@ -81,32 +81,32 @@ unfolding entry_by form_of forms ascii
 returns-in-76 c = ap (λ (n : ℕ). some (call (lengthen n))) c.two_at.ensures ∙ entry-as _ 76 c.in-76.is _
 
 pub returns-in-87 : goal.returns-in-87
-unfolding width_by entry_by form_of forms ascii
+unfolding Long entry_by form_of forms ascii
 returns-in-87 c =
     let e = c.in-87.is in
-    ap (λ (n : ℕ). some (call (withdraw n))) (sym (one_at _ 0 (wide-as _ 87 e _ c.requires))) ∙ entry-as _ 87 e _
+    ap (λ (n : ℕ). some (call (withdraw n))) (sym (one_at _ 0 (long-as _ 87 e _ c.requires))) ∙ entry-as _ 87 e _
 
 pub returns-in-68 : goal.returns-in-68
-unfolding width_by entry_by form_of forms ascii
+unfolding Long entry_by form_of forms ascii
 returns-in-68 c =
     let e = c.in-68.is in
-    ap (λ (n : ℕ). some (call (derive_bigs n))) (sym (one_at _ 0 (wide-as _ 68 e _ c.requires))) ∙ entry-as _ 68 e _
+    ap (λ (n : ℕ). some (call (derive_bigs n))) (sym (one_at _ 0 (long-as _ 68 e _ c.requires))) ∙ entry-as _ 68 e _
 
 pub returns-in-69 : goal.returns-in-69
-unfolding width_by entry_by form_of forms ascii
+unfolding Long entry_by form_of forms ascii
 returns-in-69 c =
     let e = c.in-69.is in
-    ap (λ (n : ℕ). some (call (derive_superiors n))) (sym (one_at _ 0 (wide-as _ 69 e _ c.requires))) ∙ entry-as _ 69 e _
+    ap (λ (n : ℕ). some (call (derive_superiors n))) (sym (one_at _ 0 (long-as _ 69 e _ c.requires))) ∙ entry-as _ 69 e _
 
 pub returns-in-81 : goal.returns-in-81
 unfolding entry_by form_of forms ascii
 returns-in-81 c = rw (c.price_at.ensures, c.price_at-in-81.ensures) (entry-as _ 81 c.in-81.is _)
 
-pub returns-in_default : goal.returns-in_default
-returns-in_default c =
-    let rest = c.in_default.in_default-own.rest in
-    let first = rest.0.0.0.0.0 in
-    let later = rest.0 in
-    no_entry _
-    (no_form _ first.0.0.0.1 first.0.0.1 first.0.1 first.1 later.0.0.0.1 later.0.0.1 later.0.1 later.1 rest.1)
+pub unreachable-requires : goal.unreachable-requires
+unreachable-requires c =
+    no_fields c.args.letter (λ e. omega arith) (λ e. omega arith) (λ e. omega arith) (λ e. omega arith) (λ e. omega arith) (λ e. omega arith)
+    (λ e. omega arith)
+    (λ e. omega arith)
+    (λ e. omega arith)
     _
+    c.requires

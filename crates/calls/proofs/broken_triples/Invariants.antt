@@ -1,12 +1,9 @@
-use Prim.Native.Nat.{◌≤◌, ◌-◌}
-use mathlib.Core.Path.{◌≡◌}
-use mathlib.Core.Option.{none, some}
-use lib.ListN.{take, drop}
+-- What is left of the level, behind the record before. Assumes nothing.
+use Rattle.std.proofs.Common.{◌≡◌, drop}
+use Rattle.std.proofs.Math.Option.{none}
+use Rattle.chart.specs.Table.{option_of}
 use Rattle.rules.specs.Refusals.{broken_triples}
 use Rattle.calls.proofs.broken_triples.Given as goal
 
-abbrev pub invariant-loop-k : goal.invariant-loop-k
-invariant-loop-k l = (l.k ≤ l.n) × (broken_triples l.below (some l.p) (drop l.k (take l.n l.triples)) ≡ broken_triples l.below none (take l.n l.triples))
-
-abbrev pub decreases-loop-k : goal.decreases-loop-k
-decreases-loop-k l = l.n - l.k
+abbrev pub invariant-loop-t : goal.invariant-loop-t
+invariant-loop-t l = broken_triples l.below (option_of l.previous) (drop l.t-index l.level) ≡ broken_triples l.below none l.level

@@ -1,6 +1,13 @@
 -- `calls::unmet` meets its contract. Assumes nothing.
-use Rattle.calls.proofs.Single.{price-met}
+use Rattle.std.proofs.Common.{arith}
+use lib.Ieee.{ne}
+use Rattle.rules.specs.Refusals.{unmet}
 use Rattle.calls.proofs.unmet.Goals as goal
 
-pub returns : goal.returns
-returns c = price-met _ _
+pub returns-then-s-p : goal.returns-then-s-p
+unfolding unmet ne
+returns-then-s-p c = grind arith
+
+pub returns-else-s-p : goal.returns-else-s-p
+unfolding unmet ne
+returns-else-s-p c = grind arith

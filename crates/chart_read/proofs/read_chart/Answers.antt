@@ -1,11 +1,10 @@
 -- `chart_read::read_chart` meets its contract. The invariant: what is left to read, behind the chart so far and the bars passed over. Assumes nothing.
-use native.Mathlib.Omega.{arith}
-use mathlib.Core.Path.{refl}
+use mathlib.Core.Path.{◌≡◌, ap, sym, ◌∙◌}
 use borrow.Author.Rules.{rules}
-use Rattle.rules.specs.File.{kind, width}
+use Rattle.rules.specs.Refusals.{overfull}
 use Rattle.laws.proofs.Arrays.{length_via, Sized, sized_via}
-use Rattle.chart_read.specs.declared.Level.TheVariants as level
-use Rattle.chart_read.proofs.Scans.{begins, Turn, stops, stroke-is, triple-is, has_place, goes_on, goes-on-stroke, goes_over, ends}
+use Rattle.chart_read.proofs.Scans.{begins, turn, stops, read, has_place, goes-on-stroke, goes-on-segment, goes-on-big, goes-on-superior, goes_over}
+use Rattle.chart_read.proofs.Scans.{ends, fits}
 use Rattle.chart_read.proofs.read_chart.Goals.{After-no_chart-chart}
 use Rattle.chart_read.proofs.read_chart.Goals as goal
 
@@ -15,86 +14,38 @@ sized c = search (rules, length_via, sized_via)
 pub loop-at-init : goal.loop-at-init
 loop-at-init c = let e = c.no_chart-chart.ensures in begins _ _ (sized c) e.0 e.1 e.2 e.3
 
-pub returns-in-Refused : goal.returns-in-Refused
-returns-in-Refused c =
-    let turn : Turn c.args.bytes.now c.loop-at.chart c.loop-at.passed c.loop-at.at c.head_of-head.result =
-    record { reached = c.loop-at.invariant; more = c.loop-at-test.true; called = c.head_of-head.ensures } in
-    let e = c.refusal.ensures in
-    rw (e.0, e.1, e.2) (stops turn _ c.in-Refused.is _)
+pub returns-in-Err-clause-chart_value : goal.returns-in-Err-clause-chart_value
+returns-in-Err-clause-chart_value c = stops (turn c.loop-at.invariant c.loop-at-test.true c.record_at.ensures) _ c.in-Err.is
 
-pub bounds-chart-k : goal.bounds-chart-k
-bounds-chart-k c =
-    let turn : Turn c.args.bytes.now c.loop-at.chart c.loop-at.passed c.loop-at.at c.head_of-head.result =
-    record { reached = c.loop-at.invariant; more = c.loop-at-test.true; called = c.head_of-head.ensures } in
-    let read = stroke-is turn _ c.in-Stroke.is in
-    omega (arith, has_place turn _ read)
+pub bounds-chart-chart : goal.bounds-chart-chart
+bounds-chart-chart c = has_place (turn c.loop-at.invariant c.loop-at-test.true c.record_at.ensures) _ (read (turn c.loop-at.invariant c.loop-at-test.true c.record_at.ensures) _ _ c.in-Ok.is c.in-Stroke.is)
 
 pub loop-at-preserved-in-Stroke : goal.loop-at-preserved-in-Stroke
-loop-at-preserved-in-Stroke c =
-    let turn : Turn c.args.bytes.now c.loop-at.chart c.loop-at.passed c.loop-at.at c.head_of-head.result =
-    record { reached = c.loop-at.invariant; more = c.loop-at-test.true; called = c.head_of-head.ensures } in
-    let read = stroke-is turn _ c.in-Stroke.is in
-    goes-on-stroke turn _ read
+loop-at-preserved-in-Stroke c = goes-on-stroke (turn c.loop-at.invariant c.loop-at-test.true c.record_at.ensures) _ (read (turn c.loop-at.invariant c.loop-at-test.true c.record_at.ensures) _ _ c.in-Ok.is c.in-Stroke.is)
 
-pub enum_told-1 : goal.enum_told-1
-enum_told-1 c = search rules
-
-pub bounds-chart-k-in-Segment : goal.bounds-chart-k-in-Segment
-bounds-chart-k-in-Segment c =
-    let turn : Turn c.args.bytes.now c.loop-at.chart c.loop-at.passed c.loop-at.at c.head_of-head.result =
-    record { reached = c.loop-at.invariant; more = c.loop-at-test.true; called = c.head_of-head.ensures } in
-    let read = triple-is turn _ level.Segment _ c.in-Triple.is c.in-Segment.is in
-    omega (arith, has_place turn _ read)
+pub bounds-chart-chart-in-Segment : goal.bounds-chart-chart-in-Segment
+bounds-chart-chart-in-Segment c = has_place (turn c.loop-at.invariant c.loop-at-test.true c.record_at.ensures) _ (read (turn c.loop-at.invariant c.loop-at-test.true c.record_at.ensures) _ _ c.in-Ok.is c.in-Segment.is)
 
 pub loop-at-preserved-in-Segment : goal.loop-at-preserved-in-Segment
-unfolding width kind
-loop-at-preserved-in-Segment c =
-    let turn : Turn c.args.bytes.now c.loop-at.chart c.loop-at.passed c.loop-at.at c.head_of-head.result =
-    record { reached = c.loop-at.invariant; more = c.loop-at-test.true; called = c.head_of-head.ensures } in
-    let read = triple-is turn _ level.Segment _ c.in-Triple.is c.in-Segment.is in
-    goes_on turn _ read _ refl
+loop-at-preserved-in-Segment c = goes-on-segment (turn c.loop-at.invariant c.loop-at-test.true c.record_at.ensures) _ (read (turn c.loop-at.invariant c.loop-at-test.true c.record_at.ensures) _ _ c.in-Ok.is c.in-Segment.is)
 
-pub bounds-chart-k-in-Big : goal.bounds-chart-k-in-Big
-bounds-chart-k-in-Big c =
-    let turn : Turn c.args.bytes.now c.loop-at.chart c.loop-at.passed c.loop-at.at c.head_of-head.result =
-    record { reached = c.loop-at.invariant; more = c.loop-at-test.true; called = c.head_of-head.ensures } in
-    let read = triple-is turn _ level.Big _ c.in-Triple.is c.in-Big.is in
-    omega (arith, has_place turn _ read)
+pub bounds-chart-chart-in-Big : goal.bounds-chart-chart-in-Big
+bounds-chart-chart-in-Big c = has_place (turn c.loop-at.invariant c.loop-at-test.true c.record_at.ensures) _ (read (turn c.loop-at.invariant c.loop-at-test.true c.record_at.ensures) _ _ c.in-Ok.is c.in-Big.is)
 
 pub loop-at-preserved-in-Big : goal.loop-at-preserved-in-Big
-unfolding width kind
-loop-at-preserved-in-Big c =
-    let turn : Turn c.args.bytes.now c.loop-at.chart c.loop-at.passed c.loop-at.at c.head_of-head.result =
-    record { reached = c.loop-at.invariant; more = c.loop-at-test.true; called = c.head_of-head.ensures } in
-    let read = triple-is turn _ level.Big _ c.in-Triple.is c.in-Big.is in
-    goes_on turn _ read _ refl
+loop-at-preserved-in-Big c = goes-on-big (turn c.loop-at.invariant c.loop-at-test.true c.record_at.ensures) _ (read (turn c.loop-at.invariant c.loop-at-test.true c.record_at.ensures) _ _ c.in-Ok.is c.in-Big.is)
 
-pub bounds-chart-k-in-Superior : goal.bounds-chart-k-in-Superior
-bounds-chart-k-in-Superior c =
-    let turn : Turn c.args.bytes.now c.loop-at.chart c.loop-at.passed c.loop-at.at c.head_of-head.result =
-    record { reached = c.loop-at.invariant; more = c.loop-at-test.true; called = c.head_of-head.ensures } in
-    let read = triple-is turn _ level.Superior _ c.in-Triple.is c.in-Superior.is in
-    omega (arith, has_place turn _ read)
+pub bounds-chart-chart-in-Superior : goal.bounds-chart-chart-in-Superior
+bounds-chart-chart-in-Superior c = has_place (turn c.loop-at.invariant c.loop-at-test.true c.record_at.ensures) _ (read (turn c.loop-at.invariant c.loop-at-test.true c.record_at.ensures) _ _ c.in-Ok.is c.in-Superior.is)
 
 pub loop-at-preserved-in-Superior : goal.loop-at-preserved-in-Superior
-unfolding width kind
-loop-at-preserved-in-Superior c =
-    let turn : Turn c.args.bytes.now c.loop-at.chart c.loop-at.passed c.loop-at.at c.head_of-head.result =
-    record { reached = c.loop-at.invariant; more = c.loop-at-test.true; called = c.head_of-head.ensures } in
-    let read = triple-is turn _ level.Superior _ c.in-Triple.is c.in-Superior.is in
-    goes_on turn _ read _ refl
-
-pub overflow_add-passed : goal.overflow_add-passed
-overflow_add-passed c =
-    let turn : Turn c.args.bytes.now c.loop-at.chart c.loop-at.passed c.loop-at.at c.head_of-head.result =
-    record { reached = c.loop-at.invariant; more = c.loop-at-test.true; called = c.head_of-head.ensures } in
-    record { fits = omega (arith, turn.reached.fewer, turn.more) }
+loop-at-preserved-in-Superior c = goes-on-superior (turn c.loop-at.invariant c.loop-at-test.true c.record_at.ensures) _ (read (turn c.loop-at.invariant c.loop-at-test.true c.record_at.ensures) _ _ c.in-Ok.is c.in-Superior.is)
 
 pub loop-at-preserved : goal.loop-at-preserved
-loop-at-preserved c =
-    let turn : Turn c.args.bytes.now c.loop-at.chart c.loop-at.passed c.loop-at.at c.head_of-head.result =
-    record { reached = c.loop-at.invariant; more = c.loop-at-test.true; called = c.head_of-head.ensures } in
-    goes_over turn c.in-Bar.is
+loop-at-preserved c = goes_over (turn c.loop-at.invariant c.loop-at-test.true c.record_at.ensures) (read (turn c.loop-at.invariant c.loop-at-test.true c.record_at.ensures) _ _ c.in-Ok.is c.in-Bar.is)
 
-pub returns : goal.returns
-returns c = ends _ _ _ _ c.loop-at.invariant c.loop-at-test.false
+pub returns-clause-chart_value : goal.returns-clause-chart_value
+returns-clause-chart_value c = ends c.loop-at.invariant c.loop-at-test.false
+
+pub returns-clause-chart_fits : goal.returns-clause-chart_fits
+returns-clause-chart_fits c = λ l e. let same : c.loop-at.chart ≡ l.chart = cc in sym (ap overfull same) ∙ fits c.loop-at.invariant

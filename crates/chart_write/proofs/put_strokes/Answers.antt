@@ -1,30 +1,26 @@
 -- `chart_write::put_strokes` meets its contract. The invariant: the bytes that are left, put from the place reached on, make the wanted buffer.
 -- Assumes nothing.
-use Prim.Native.Nat.{◌≤◌}
+use Prim.Native.Nat.{◌+◌, ◌*◌}
 use native.Mathlib.Omega.{arith}
-use lib.ListN.{length}
-use Rattle.chart_write.proofs.Levels.{stroke-next, stroke-none, stroke-prices}
-use Rattle.laws.proofs.FilePut.{begun, room_next, written_next, ended}
-use Rattle.chart_write.proofs.put_strokes.Goals.{Start}
+use mathlib.Core.Path.{◌≡◌}
+use Rattle.chart_write.proofs.Levels.{no_stroke, begun_first, ended-first, stroke-next, stroke-none, stroke-prices}
+use Rattle.laws.proofs.FilePut.{room_next, written_next}
 use Rattle.chart_write.proofs.put_strokes.Goals as goal
 
-long : (c : Start) → c.args.n ≤ length c.args.strokes
-long c = omega arith
-
 pub loop-i-init : goal.loop-i-init
-loop-i-init c = (omega arith, begun _ _ _ c.requires.strokes_in_bounds)
+loop-i-init c = begun_first _ _ c.requires.strokes_in_bounds
 
 pub put_stroke-requires : goal.put_stroke-requires
 put_stroke-requires c =
-    let more = c.loop-i-test.true in record { in_bounds = room_next c.loop-i.invariant.1 (stroke-next _ _ _ (long c.before.before.before.before.before) more); s_value = stroke-prices _ _ _ (long c.before.before.before.before.before) more c.requires.strokes_value }
+    record {
+      in_bounds = room_next c.loop-i.invariant (stroke-next _ no_stroke _ c.loop-i-test.true);
+      s_value = stroke-prices _ _ _ c.loop-i-test.true c.requires.strokes_value;
+    }
 
 pub loop-i-preserved : goal.loop-i-preserved
 loop-i-preserved c =
-    let next = stroke-next _ _ _ (long c.before.before.before.before.before.before.before.before.before) c.loop-i-test.true in
-    (omega arith, written_next c.loop-i.invariant.1 next _ c.put_stroke.ensures)
-
-pub shape_of-buffer : goal.shape_of-buffer
-shape_of-buffer c = c.loop-i.invariant.1.long
+    let next : 23 * c.loop-i.i + 23 ≡ 23 * (c.loop-i.i + 1) = omega arith in
+    rw next at (written_next c.loop-i.invariant (stroke-next _ no_stroke _ c.loop-i-test.true) _ c.put_stroke.ensures)
 
 pub returns : goal.returns
-returns c = let whole = ended c.loop-i.invariant.1 (stroke-none _ _ _ (long c.before.before.before) c.loop-i-test.false) in record { value = whole.0; buffer_after = whole.1 }
+returns c = ended-first c.loop-i.invariant (stroke-none _ _ c.loop-i-test.false)

@@ -1,13 +1,18 @@
 -- `chart_write::refusal` meets its contract. Assumes nothing.
-use Rattle.laws.proofs.Arrays.{length_via, Sized, sized_via}
-use Rattle.chart_write.proofs.Call.{refusal-by}
-use borrow.Author.Rules.{rules}
-use Rattle.chart_write.proofs.refusal.Goals.{Start}
+use borrow.Author.Tests.{lt-ltb, le-ltb}
+use Rattle.rules.specs.Refusals.{refuse}
+use Rattle.rules.specs.File.{write_refusal}
 use Rattle.chart_write.proofs.refusal.Goals as goal
 
-sized : (c : Start) → Sized c.args.chart
-sized c = search (rules, length_via, sized_via)
+pub returns-then-bad_chart : goal.returns-then-bad_chart
+unfolding write_refusal refuse
+returns-then-bad_chart c = rw (← c.bad_chart.ensures, c.if-bad_chart.true)
+
+pub returns-then-buffer-size_of : goal.returns-then-buffer-size_of
+unfolding write_refusal refuse
+returns-then-buffer-size_of c =
+    rw (← c.bad_chart.ensures, c.if-bad_chart.false, ← c.size_of.ensures, lt-ltb _ _ c.if-buffer-size_of.true)
 
 pub returns : goal.returns
-returns c =
-    refusal-by _ _ _ _ _ (sized c.before.before.before.before.before) c.bad_chart-bad.ensures c.levels_size-size.ensures c.first_of.ensures
+unfolding write_refusal refuse
+returns c = rw (← c.bad_chart.ensures, c.if-bad_chart.false, ← c.size_of.ensures, le-ltb _ _ c.if-buffer-size_of.false)

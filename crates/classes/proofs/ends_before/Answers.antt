@@ -1,12 +1,8 @@
--- `classes::ends_before` meets its contract. Assumes nothing.
-use Rattle.classes.proofs.After.{before-first, before-no-end, before-end}
+use Rattle.std.proofs.Common.{rules}
+use Rattle.classes.proofs.After.{second-of, ends-at}
 use Rattle.classes.proofs.ends_before.Goals as goal
 
-pub returns-in_default : goal.returns-in_default
-returns-in_default c = before-first _ _ c.in_default.is
-
-pub returns-in_default-end : goal.returns-in_default-end
-returns-in_default-end c = before-no-end _ _ _ c.in-After.is c.in_default-end.is
-
 pub returns : goal.returns
-returns c = before-end _ _ _ _ c.in-After.is c.in-At.is
+returns c items s =
+    second-of c.and_then.result c.args.last c.and_then.ensures (λ p. p) (λ k q. search rules) items s c.args.i c.is_some_and.result
+    (ends-at c.and_then.result c.is_some_and.ensures c.args.i c.is_some_and.result (λ p. p) (λ e q. search rules))

@@ -1,58 +1,33 @@
 -- `classes::extend` meets its contract. The invariant: the class so far, extended over what is left of the items, is the class extended. Assumes nothing.
-use native.Mathlib.Omega.{arith}
-use mathlib.Core.Path.{◌≡◌, ◌∙◌}
-use mathlib.Core.List.{List}
-use mathlib.Core.Option.{some}
-use lib.ListN.{length, take, get_elem?}
-use lib.Seq.{length-take-le}
-use Rattle.rules.specs.Classes.{Item}
-use Rattle.laws.proofs.Lists.{at_take}
-use Rattle.classes.specs.Items.{item_of, items_of}
-use Rattle.classes.proofs.Items.{items-length, item_in}
-use Rattle.classes.proofs.Extended.{extend-none, extend-begins, over_none, over-pass, over-moves}
-use borrow.Author.Tests.{not-true, not-false}
-use Rattle.classes.proofs.extend.Goals.{After-item_at-y, At-loop-at}
+use Rattle.std.proofs.Common.{arith, rules, sym, ◌∙◌, ◌+◌}
+use Rattle.rules.specs.Classes.{moved}
+use Rattle.classes.proofs.Extended.{extend-none, extend-begins, over-none, over-other, over-short, over-moves}
+use Rattle.classes.proofs.extend.Goals.{then-y-longer+then-at_or_beyond, else-y-longer}
+use Rattle.classes.proofs.extend.Goals.{else-y-longer-via-then-y-longer+else-at_or_beyond, else-y-longer-via-else-y-longer}
 use Rattle.classes.proofs.extend.Goals as goal
 
--- those of the items that the class may reach
-abbrev reach : At-loop-at → List Item
-reach c =
-    let a = c.args in
-    take c.at_most-end.result (items_of a.n a.directions.now a.starts.now a.ends.now)
+pub returns-in_default : goal.returns-in_default
+returns-in_default c = extend-none c.args.items.now c.args.stop c.args.k (grind (arith, c.in_default.ensures, c.min.ensures))
 
-reach-length : (c : At-loop-at) → length (reach c) ≡ c.at_most-end.result
-reach-length c =
-    let a = c.args in
-    let all = items-length a.directions.now a.starts.now a.ends.now a.n in
-    length-take-le _ (items_of a.n a.directions.now a.starts.now a.ends.now) (omega (arith, c.loop-at.invariant.0))
+pub loop-j-init : goal.loop-j-init
+loop-j-init c = extend-begins c.args.items.now c.args.stop c.args.k c.in-Some.later.now _ (search rules) (search rules)
 
-pub returns-then-n-last : goal.returns-then-n-last
-returns-then-n-last c = extend-none _ _ _ _ (items-length _ _ _ _) c.if-n-last.true
-
-pub loop-at-init : goal.loop-at-init
-loop-at-init c = (
-  omega (arith, c.at_most-end.ensures),
-  extend-begins _ _ _ _ (items-length _ _ _ _) _ _ (item_in _ _ _ _ _ _ c.if-n-last.false c.item_at-x.ensures) c.at_most-end.ensures,
-)
-
--- the next item
-next : (c : After-item_at-y) → get_elem? (reach c.before.before) c.loop-at.at ≡ some (item_of c.item_at-y.result)
-next c =
-    at_take _ _ _ c.loop-at-test.true
-    ∙ item_in _ _ _ _ _ _ (omega (arith, c.loop-at.invariant.0, c.loop-at-test.true)) c.item_at-y.ensures
-
-pub loop-at-preserved-then-not-reaches : goal.loop-at-preserved-then-not-reaches
-loop-at-preserved-then-not-reaches c = (
-  c.loop-at.invariant.0,
-  over-pass _ _ _ _ _ c.loop-at.invariant.1 _ (next c.before.before) _ c.reaches.ensures (not-true _ c.if-not-reaches.true-raw),
-)
-
-pub loop-at-preserved : goal.loop-at-preserved
-loop-at-preserved c = (
-  c.loop-at.invariant.0,
-  over-moves _ _ _ _ _ c.loop-at.invariant.1 _ (next c.before.before.before) _ c.reaches.ensures _ (not-false _ c.if-not-reaches.false-raw) c.moved-r.ensures,
-)
+pub loop-j-preserved : goal.loop-j-preserved
+unfolding moved
+loop-j-preserved c = elim c.if-y-longer.branch [
+  | then-y-longer+then-at_or_beyond w ↦
+      rw (w.longer-is, w.price-is)
+      (over-moves c.loop-j.longer c.loop-j.price (c.args.k.last + 1 + c.loop-j.j) c.loop-j.j _ c.in-Some.later.now _ c.loop-j.invariant _
+      c.loop-j-test.true (omega arith) w.if-y-longer.true (sym w.at_or_beyond.ensures ∙ w.if-at_or_beyond.true))
+  | else-y-longer w ↦
+      rw (w.longer-is, w.price-is) (elim w.else-y-longer.branch [
+        | else-y-longer-via-then-y-longer+else-at_or_beyond v ↦
+            over-short _ _ _ c.loop-j.j _ _ _ c.loop-j.invariant _ c.loop-j-test.true (omega arith) v.if-y-longer.true
+            (sym v.at_or_beyond.ensures ∙ v.if-at_or_beyond.false)
+        | else-y-longer-via-else-y-longer v ↦
+            over-other _ _ _ c.loop-j.j _ _ _ c.loop-j.invariant _ c.loop-j-test.true (omega arith) v.if-y-longer.false
+      ])
+]
 
 pub returns : goal.returns
-returns c =
-    over_none _ _ _ _ _ c.loop-at.invariant.1 (omega (arith, reach-length c.before, c.loop-at-test.false))
+returns c = over-none _ _ _ c.loop-j.j 0 _ _ c.loop-j.invariant c.loop-j-test.false

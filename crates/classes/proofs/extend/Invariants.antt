@@ -1,14 +1,8 @@
-use Prim.Native.Nat.{◌≤◌, ◌-◌}
-use mathlib.Core.Path.{◌≡◌}
-use lib.ListN.{take, drop}
+use Rattle.std.proofs.Common.{◌≡◌, ◌+◌, drop}
 use Rattle.rules.specs.Classes.{extend_over, extend}
-use Rattle.classes.specs.Items.{items_of}
+use Rattle.classes.specs.Items.{items_in}
 use Rattle.classes.proofs.extend.Given as goal
 
-abbrev pub invariant-loop-at : goal.invariant-loop-at
-invariant-loop-at l =
-    (l.end ≤ l.n)
-    × (extend_over l.r l.price l.at (drop l.at (take l.end (items_of l.n l.directions l.starts l.ends))) ≡ extend (items_of l.n l.directions l.starts l.ends) l.stop l.initial.r)
-
-abbrev pub decreases-loop-at : goal.decreases-loop-at
-decreases-loop-at l = l.end - l.at
+abbrev pub invariant-loop-j : goal.invariant-loop-j
+invariant-loop-j l =
+    extend_over l.longer l.price (l.last + 1 + l.j) (items_in (drop l.j l.later)) ≡ extend (items_in l.items) l.fn.stop l.fn.k

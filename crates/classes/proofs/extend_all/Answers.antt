@@ -1,38 +1,25 @@
--- `classes::extend_all` meets its contract. The invariant: the rows from c on are extended, and those before are as they were. Assumes nothing.
-use native.Mathlib.Omega.{arith}
-use mathlib.Core.Path.{◌≡◌, sym}
-use lib.ListN.{length, length-set}
-use Rattle.laws.proofs.Arrays.{length_via}
-use Rattle.classes.proofs.Items.{items-length}
-use Rattle.classes.proofs.Extended.{behind-first, behind_more, behind-all}
-use borrow.Author.Rules.{rules}
-use Rattle.classes.proofs.extend_all.Goals.{Start}
+-- `classes::extend_all` meets its contract. Assumes nothing.
+use Rattle.std.proofs.Common.{arith, rules, lit<, length, ap, ◌∙◌, take}
+use Rattle.std.proofs.lemmas.List.{length-take, length_push}
+use Rattle.classes.proofs.Extended.{stop-of, all_more, all-done}
 use Rattle.classes.proofs.extend_all.Goals as goal
 
-rows_long : (c : Start) → length c.args.found.rows ≡ 256
-rows_long c = search (rules, length_via)
-
-pub loop-c-init : goal.loop-c-init
-loop-c-init c = (
-  omega arith,
-  rows_long c.before,
-  rows_long c.before,
-  behind-first _ _ _ _ (omega (arith, rows_long c.before, c.requires)) (sym (items-length _ _ _ _)),
-)
+pub push-requires : goal.push-requires
+push-requires c =
+    let few = c.loop-c.invariant.few in
+    let whole = c.loop-c.all.whole in
+    let long = length-take c.loop-c.all.count c.loop-c.all.rows in
+    (lit< tt, (omega arith, omega arith))
 
 pub loop-c-preserved : goal.loop-c-preserved
 loop-c-preserved c =
-    let inv = c.loop-c.invariant in (
-      omega (arith, inv.0),
-      simp length-set inv.1,
-      inv.2,
-      behind_more _ c.args.found.count c.loop-c.c _ _ _ _ _ (omega (arith, c.loop-c-test.true)) inv.0
-          (omega (arith, inv, c.requires)) (omega (arith, inv, c.requires)) inv.3 c.extend.ensures,
-    )
+    record {
+      few = omega (arith, ap length c.push.ensures ∙ length_push (take c.loop-c.all.count c.loop-c.all.rows) c.extend.result, c.loop-c.invariant.few);
+      rest = rw (c.push.ensures, c.extend.ensures)
+          (all_more c.args.items.now c.args.found.now _ _ c.loop-c.c c.map_or-stop.result _ c.loop-c-test.true
+          (stop-of c.args.found.now c.loop-c.c _ c.map_or-stop.result c.get.result c.map_or-stop.ensures c.get.ensures.lookup (λ p. p) (λ x q. search rules))
+          c.loop-c.invariant.rest);
+    }
 
 pub returns : goal.returns
-returns c =
-    record {
-      few = c.requires.1;
-      are = behind-all _ _ c.loop-c.c _ _ _ (omega (arith, c.loop-c-test.false)) c.loop-c.invariant.3;
-    }
+returns c = all-done c.args.items.now c.args.found.now _ _ c.loop-c.c c.loop-c-test.false c.loop-c.invariant.rest

@@ -1,16 +1,16 @@
-use Prim.Native.Nat.{◌≤◌, ◌-◌}
-use mathlib.Core.Path.{◌≡◌}
-use mathlib.Core.Bool.{true}
-use lib.ListN.{length}
-use Rattle.rules.specs.Records.{levels_of}
-use Rattle.classes.specs.Items.{items_of, level_of, row_item}
-use Rattle.classes.proofs.Gather.{Gathering}
+use Rattle.std.proofs.Common.{◌≡◌, ◌≤◌, ◌++◌, length, drop}
+use Rattle.std.proofs.Math.Option.{Option}
+use Rattle.chart.specs.declared.Triple.{Triple}
+use Rattle.rows.specs.Rows.{rows_in}
+use Rattle.rules.specs.Lists.{any, is_none, collect}
+use Rattle.rules.specs.Classes.{Item}
+use Rattle.classes.specs.Items.{item_read, items_in}
 use Rattle.classes.proofs.items_of.Given as goal
 
-abbrev pub invariant-loop-k : goal.invariant-loop-k
-invariant-loop-k l =
-    (l.n ≤ 256) × (l.k ≤ l.n) × (length l.got.directions ≡ 256) × (length l.got.starts ≡ 256) × (length l.got.ends ≡ 256) × (l.got.lacking ≡ true)
-    × Gathering (row_item l.bigs (levels_of l.chart)) (level_of l.bigs (levels_of l.chart)) l.k (items_of l.k l.got.directions l.got.starts l.got.ends)
-
-abbrev pub decreases-loop-k : goal.decreases-loop-k
-decreases-loop-k l = l.n - l.k
+abbrev pub invariant-loop-t : goal.invariant-loop-t
+invariant-loop-t g l = record {
+  few : length (rows_in l.items) ≤ l.t-index;
+  so_far : (f : Triple → Option Item) → ((t : Triple) (x : _) → goal.F-post g l.item t x → item_read x ≡ f t)
+      → (any (λ (t : Triple). is_none (f t)) (drop l.t-index l.records) ≡ any (λ (t : Triple). is_none (f t)) l.records)
+      × (items_in (rows_in l.items) ++ collect f (drop l.t-index l.records) ≡ collect f l.records);
+}

@@ -1,9 +1,7 @@
--- `classes::wanted` meets its contract. Assumes nothing.
-use Rattle.classes.proofs.After.{wanted-first, wanted-after}
+use Rattle.std.proofs.Common.{rules}
+use Rattle.std.proofs.lemmas.Bool.Decides.{nat_tests}
+use Rattle.classes.proofs.After.{tries}
 use Rattle.classes.proofs.wanted.Goals as goal
 
-pub returns-in_default : goal.returns-in_default
-returns-in_default c = wanted-first _ _ c.in_default.is
-
 pub returns : goal.returns
-returns c = wanted-after _ _ _ c.in-After.is
+returns c = tries c.is_none_or.result c.args.last c.is_none_or.ensures c.args.i c.args.x (λ p. search rules) (λ k q. search (rules, nat_tests))

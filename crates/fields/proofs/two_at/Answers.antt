@@ -1,11 +1,9 @@
 -- `fields::two_at` meets its contract. Assumes nothing.
-use native.Mathlib.Omega.{arith}
-use native.Mathlib.Numerals.{add-one}
-use mathlib.Core.Path.{sym, ◌∙◌}
-use Rattle.laws.proofs.FileCode.{two_at}
+use mathlib.Core.Path.{◌∙◌}
+use Rattle.fields.proofs.Bytes.{read_two}
 use Rattle.fields.proofs.two_at.Goals as goal
 
 pub returns : goal.returns
 returns c =
-    let start = c in
-    rw (add-one start.args.at) at c.two_of.ensures ∙ sym (two_at start.args.s.now start.args.at (omega arith))
+    let whole = rw c.unwrap.ensures at c.try_into.ensures.1 in
+    c.from_le_bytes.ensures ∙ read_two _ _ _ c.requires whole.same

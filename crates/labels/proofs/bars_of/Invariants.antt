@@ -1,17 +1,12 @@
-use mathlib.Core.Path.{◌≡◌}
-use mathlib.Core.List.{map}
-use Prim.Native.Nat.{◌≤◌, ◌-◌}
-use lib.ListN.{length, take}
-use Rattle.rules.specs.Records.{Levels}
-use Rattle.rules.specs.Ranges.{range_of}
-use Rattle.tables.specs.Tables.{Bigs}
-use Rattle.labels.specs.Touching.{BarColumns}
+use Rattle.std.proofs.Common.{◌≡◌, ◌≤◌, ◌++◌, length, drop}
+use Rattle.rows.specs.Rows.{rows_in}
+use Rattle.rules.specs.Lists.{collect}
+use Rattle.tables.specs.declared.Big.{Big}
+use Rattle.labels.specs.Touching.{bars_in}
 use Rattle.labels.proofs.bars_of.Given as goal
 
-abbrev pub invariant-loop-k : goal.invariant-loop-k
-invariant-loop-k l =
-    (l.k ≤ l.m) × (length l.starts ≡ 256) × (length l.ends ≡ 256)
-    × ((c : Levels) → Bigs c l.m l.bars l.prices → BarColumns l.k l.starts l.ends (map (range_of c) (take l.k c.bigs)))
-
-abbrev pub decreases-loop-k : goal.decreases-loop-k
-decreases-loop-k l = l.m - l.k
+abbrev pub invariant-loop-big : goal.invariant-loop-big
+invariant-loop-big l = record {
+  few : length (rows_in l.all) ≤ l.big-index;
+  rest : rows_in l.all ++ collect (λ (b : Big). bars_in b.range) (drop l.big-index l.bigs) ≡ collect (λ (b : Big). bars_in b.range) l.bigs;
+}

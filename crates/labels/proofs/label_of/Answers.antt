@@ -1,17 +1,10 @@
 -- `labels::label_of` meets its contract. Assumes nothing.
-use mathlib.Core.Path.{refl}
-use native.Mathlib.Omega.{arith}
-use Rattle.labels.proofs.Steps.{name_most, label-named, label-extended}
+use Rattle.std.proofs.Common.{◌∙◌}
+use Rattle.labels.proofs.label_of.Goals.{then-alone, else-alone}
 use Rattle.labels.proofs.label_of.Goals as goal
 
-pub returns-in_default : goal.returns-in_default
-returns-in_default c =
-    label-extended _ _ _ _ c.name_of-name.ensures _ _ c.marked-label.ensures.0 _ refl
-    c.in_default.is c.with_extension.ensures
-
-pub overflow_add-result : goal.overflow_add-result
-overflow_add-result c = omega (arith, name_most _ _ _ _ c.in-Number.is c.name_of-name.ensures)
-
-pub returns : goal.returns
-returns c =
-    label-named _ _ _ _ c.name_of-name.ensures _ _ c.marked-label.ensures.0 _ c.in-Number.is c.with_name.ensures
+pub returns-in-Some : goal.returns-in-Some
+returns-in-Some c = rw c.in-Some.is (c.with_name.ensures.text ∙ elim c.if-alone.branch [
+  | then-alone w ↦ rw (w.mark-is, w.with_bytes-mark.ensures.text, w.if-alone.true)
+  | else-alone w ↦ rw (w.mark-is, w.if-alone.false)
+])

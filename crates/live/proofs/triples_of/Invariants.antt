@@ -1,12 +1,8 @@
-use Prim.Native.Nat.{◌≤◌, ◌-◌}
-use mathlib.Core.Path.{◌≡◌}
-use mathlib.Core.List.{map}
-use lib.ListN.{length, take}
+-- The records of the classes so far. Assumes nothing.
+use Rattle.std.proofs.Common.{◌≡◌, take, map}
+use Rattle.rows.specs.Rows.{rows_in}
 use Rattle.rules.specs.Machine.{as_triple}
 use Rattle.live.proofs.triples_of.Given as goal
 
-abbrev pub invariant-loop-i : goal.invariant-loop-i
-invariant-loop-i l = (l.i ≤ l.n) × (length l.triples ≡ 256) × (take l.i l.triples ≡ map as_triple (take l.i l.classes))
-
-abbrev pub decreases-loop-i : goal.decreases-loop-i
-decreases-loop-i l = l.n - l.i
+abbrev pub invariant-loop-class : goal.invariant-loop-class
+invariant-loop-class l = (l.triples.count ≡ l.class-index) × (rows_in l.triples ≡ map as_triple (take l.class-index l.classes))

@@ -1,42 +1,42 @@
 -- `lower_zones::lower_rows` meets its contract. Assumes nothing.
-use mathlib.Core.Path.{refl, ap, ◌∙◌}
-use Rattle.rules.specs.Answer.{given}
-use Rattle.rules.specs.Records.{levels_of}
-use Rattle.rules.specs.Zones.{lower_zones_of}
+use Rattle.std.proofs.Common.{◌≡◌, List, arith, refl, ap, ◌∙◌}
+use Rattle.std.proofs.lemmas.Result.{err_from_is_err_and}
+use Rattle.chart.specs.declared.Triple.{Triple}
+use Rattle.chart.specs.declared.Zone.{Zone}
+use Rattle.rules.specs.Answer.{Answer, answered}
+use Rattle.rules.specs.Records.{Levels, levels_of}
+use Rattle.rules.specs.Ranges.{segment_range}
+use Rattle.rules.specs.Zones.{zones_from, lower_zones_of}
+use Rattle.rules.specs.Refusals.{lower_refusal}
 use Rattle.laws.proofs.Answers.{counted}
-use Rattle.zones.specs.Filled.{Filled}
-use Rattle.lower_zones.proofs.Rows.{lower-many, lower-few}
+use Rattle.tables.specs.declared.Big.{Big}
+use Rattle.tables.proofs.Filled.{few_taken, count-rows}
+use Rattle.zones.specs.Overlap.{capped, Members, Overlaps}
+use Rattle.zones.proofs.Level.{listed}
+use Rattle.lower_zones.specs.Segments.{segment_of, segments_of}
 use Rattle.lower_zones.proofs.lower_rows.Goals as goal
 
-pub segments_of-requires : goal.segments_of-requires
-segments_of-requires c =
-    let fits = counted _ c.requires in
-    (fits.segments, fits.strokes, (refl, refl))
+-- the zones of the bigs over the segments
+over_segments :
+    (c : Levels) (owners : List Triple) (members : List Big) (answer : Answer (List Zone)) → Overlaps owners members answer → members ≡ segments_of c
+    → owners ≡ c.bigs → answer ≡ answered (lower_refusal c) (lower_zones_of c)
+unfolding capped lower_refusal lower_zones_of
+over_segments c owners members answer o m s =
+    let are : Members (segment_range c) c.segments members = rw m (listed (segment_range c) (segment_of c) (λ t. refl) c.segments) in
+    o (segment_range c) c.segments are ∙ ap (λ (ss : List Triple). capped (zones_from (segment_range c) c.segments 0 ss)) s
 
-pub owners_of-requires : goal.owners_of-requires
-owners_of-requires c = ((counted _ c.requires).bigs, refl)
+pub overlap-requires : goal.overlap-requires
+overlap-requires c =
+    let n = counted c.args.chart.now c.requires in
+    (rw c.bigs.ensures (few_taken _ 256 _ n.bigs), rw c.listed.ensures (omega (arith, count-rows c.segments_of-segments.result)))
 
-pub overlap-count-requires : goal.overlap-count-requires
-overlap-count-requires c =
-    let fits = counted _ c.requires in
-    (fits.bigs, fits.segments, (refl, refl))
-
-pub returns-then-count-gt256 : goal.returns-then-count-gt256
-unfolding lower_zones_of levels_of
-returns-then-count-gt256 c =
-    -- the tables' first rows are the lower zones
-    let put : Filled c.overlap-count.result c.overlap-count.new.zb c.overlap-count.new.zp (lower_zones_of (levels_of c.args.chart)) =
-    c.overlap-count.ensures.all_zones _ _ _ c.segments_of.ensures c.owners_of.ensures in
-    c.refusal.ensures ∙ lower-many _ _ _ _ put c.if-count-gt256.true
-
-pub rows_of-requires : goal.rows_of-requires
-rows_of-requires c = (c.if-count-gt256.false, c.overlap-count.ensures.upper_bound.1)
+pub returns-in_err-overlap : goal.returns-in_err-overlap
+unfolding levels_of
+returns-in_err-overlap c =
+    let p = err_from_is_err_and c.from_residual.result c.from_residual.ensures.1 in
+    rw (p.1, p.2)
+    (over_segments (levels_of c.args.chart.now) _ _ _ c.in_err-overlap.ensures (c.listed.ensures ∙ c.segments_of-segments.ensures) c.bigs.ensures)
 
 pub returns : goal.returns
-unfolding lower_zones_of levels_of
-returns c =
-    let few = c.if-count-gt256.false in
-    -- the tables' first rows are the lower zones
-    let put : Filled c.overlap-count.result c.overlap-count.new.zb c.overlap-count.new.zp (lower_zones_of (levels_of c.args.chart)) =
-    c.overlap-count.ensures.all_zones _ _ _ c.segments_of.ensures c.owners_of.ensures in
-    c.rows_of.ensures ∙ ap given (put.few few).are ∙ lower-few _ _ _ _ put few
+unfolding levels_of
+returns c = over_segments (levels_of c.args.chart.now) _ _ _ c.in_ok-overlap.ensures (c.listed.ensures ∙ c.segments_of-segments.ensures) c.bigs.ensures

@@ -1,22 +1,27 @@
--- `mark_anchors::anchor_limit` meets its contract. The invariant: the first superior of the other direction is the first of those from place j
--- on. Assumes nothing.
-use mathlib.Core.Path.{refl}
-use Rattle.mark_anchors.proofs.Stops.{other_none, other-here, other-later}
+use Rattle.std.proofs.Common.{sym, ap, ◌∙◌}
+use Rattle.tables.specs.Tables.{bar_of}
+use Rattle.chart.specs.Table.{point_of}
+use Rattle.mark_anchors.proofs.Limits.{stop-is, no-big, big-there, bar-none, bar-some}
 use Rattle.mark_anchors.proofs.anchor_limit.Goals as goal
 
-pub loop-j-init : goal.loop-j-init
-loop-j-init c = (c.requires.0, λ l t. refl)
+pub returns-in_err-last : goal.returns-in_err-last
+returns-in_err-last c x s b = c.from_residual.ensures ∙ ap bar_of (sym (stop-is x c.args.buy _ _ s c.in_err-last.ensures))
 
-pub returns-then-not-is_way : goal.returns-then-not-is_way
-returns-then-not-is_way c =
-    λ l b t. other-here l _ _ t _ c.loop-j.j (c.loop-j.invariant.1 l t) c.loop-j-test.true _ c.is_way.ensures c.if-not-is_way.true-raw
-    _ (c.limit_at.ensures l b)
+pub returns-in_err-big : goal.returns-in_err-big
+returns-in_err-big c x s b =
+    let stop = stop-is x c.args.buy _ _ s c.in_ok-last.ensures ∙ no-big x c.args.buy _ b _ c.in_err-big.ensures.lookup.3 in
+    c.from_residual-in_err-big.ensures ∙ ap bar_of (sym stop)
 
-pub loop-j-preserved : goal.loop-j-preserved
-loop-j-preserved c =
-    let inv = c.loop-j.invariant in
-    (inv.0, λ l t. other-later l _ _ t _ c.loop-j.j (inv.1 l t) c.loop-j-test.true _ c.is_way.ensures c.if-not-is_way.false-raw)
+pub returns-in_err-end : goal.returns-in_err-end
+returns-in_err-end c x s b =
+    let point =
+    ap point_of (stop-is x c.args.buy _ _ s c.in_ok-last.ensures)
+    ∙ big-there x c.args.buy _ b _ c.in_ok-big.big.now c.in_ok-big.ensures.lookup.3.0 c.in_ok-big.ensures.lookup.1 in
+    c.from_residual-in_err-end.ensures ∙ bar-none _ (point ∙ c.in_err-end.was)
 
 pub returns : goal.returns
-returns c =
-    λ l b t. other_none l _ _ t _ c.loop-j.j (c.loop-j.invariant.1 l t) c.loop-j-test.false
+returns c x s b =
+    let point =
+    ap point_of (stop-is x c.args.buy _ _ s c.in_ok-last.ensures)
+    ∙ big-there x c.args.buy _ b _ c.in_ok-big.big.now c.in_ok-big.ensures.lookup.3.0 c.in_ok-big.ensures.lookup.1 in
+    bar-some _ _ (point ∙ c.in_ok-end.was)

@@ -1,39 +1,35 @@
--- `mark_hits::anchors_of` meets its contract. The invariant: the anchors among the first i bigs have rows. Assumes nothing.
-use native.Mathlib.Omega.{arith}
-use mathlib.Core.Path.{sym, ◌∙◌}
-use Rattle.mark_hits.proofs.Anchors.{found_none, found-missing, found-more, found_all}
+-- `mark_hits::anchors_of` meets its contract. Assumes nothing.
+use Rattle.std.proofs.Common.{take, lit<, arith, sym, ◌∙◌}
+use Rattle.std.proofs.lemmas.List.{length-take}
+use Rattle.mark_hits.specs.Anchors.{anchor_at}
+use Rattle.mark_hits.proofs.Anchors.{place_later, no_more, one_more, ends_few, count_is, anchor_is}
 use Rattle.mark_hits.proofs.anchors_of.Goals as goal
 
-pub loop-i-init : goal.loop-i-init
-loop-i-init c = (omega arith, omega arith, c.requires.1, c.requires.0, omega arith, c.requires.2, found_none c.args.side _ _ _ _)
+pub loop-big-preserved-in_default : goal.loop-big-preserved-in_default
+loop-big-preserved-in_default c =
+    let inv = c.loop-big.invariant in
+    record {
+      are = inv.are ∙ sym (no_more (anchor_at c.args.bigs.now c.args.side.buy) _ c.loop-big.big-index _ c.loop-big-test.true c.in_default.is);
+      in_bounds = inv.in_bounds;
+      passed = inv.passed;
+    }
 
-pub loop-i-preserved-in_default : goal.loop-i-preserved-in_default
-loop-i-preserved-in_default c =
-    let inv = c.loop-i.invariant in (
-      omega (arith, inv.0),
-      omega (arith, c.loop-i-test.true),
-      inv.2,
-      inv.3,
-      inv.4,
-      inv.5,
-      found-missing c.args.side _ _ _ _ _ _ c.loop-i.from _ inv.6 (omega (arith, c.loop-i-test.true, inv.2))
-          (sym c.point_at.ensures ∙ c.in_default.is),
-    )
+pub first_behind-from-requires : goal.first_behind-from-requires
+first_behind-from-requires c = grind (arith, place_later)
 
-pub loop-i-preserved : goal.loop-i-preserved
-loop-i-preserved c =
-    let inv = c.loop-i.invariant in (
-      omega (arith, inv.0),
-      omega (arith, c.loop-i-test.true),
-      inv.2,
-      inv.3,
-      c.first_behind-from.ensures.upper_bound,
-      c.put_anchor.ensures.wide,
-      found-more c.args.side _ _ _ _ _ c.loop-i.last c.loop-i.from _ inv.6
-          (omega (arith, c.loop-i-test.true, inv.2)) _ _ (sym c.point_at.ensures ∙ c.in-At.is) _
-          c.first_behind-from.ensures.first_behind c.next_end-end.result c.next_end-end.ensures.next_end _ _ c.put_anchor.ensures.puts_anchor,
-    )
+pub loop-big-preserved : goal.loop-big-preserved
+loop-big-preserved c =
+    let row = anchor_is c.args.bigs.now c.args.side.buy c.in-Some.end _ _ c.first_behind-from.ensures.first c.price_behind-price.ensures in
+    let more = one_more (anchor_at c.args.bigs.now c.args.side.buy) _ c.loop-big.big-index _ c.loop-big-test.true c.in-Some.end c.in-Some.is in
+    record {
+      are = c.push.ensures ∙ cc (c.loop-big.invariant.are, row, more);
+      in_bounds = c.first_behind-from.ensures.in_bounds;
+      passed = omega (arith, c.first_behind-from.ensures.first);
+    }
 
-pub returns : goal.returns
-returns c =
-    let inv = c.loop-i.invariant in record { upper_bound = omega (arith, inv.0, inv.1); anchors_of = found_all c.args.side _ _ _ _ _ _ c.loop-i.from _ inv.6 inv.1 c.loop-i-test.false }
+pub push-requires : goal.push-requires
+push-requires c =
+    let n = ends_few (anchor_at c.args.bigs.now c.args.side.buy) (take c.min.result c.args.bigs.now) c.loop-big.big-index in
+    let m = count_is c.loop-big.anchors _ c.loop-big.invariant.are in
+    let k = length-take c.min.result c.args.bigs.now in
+    (lit< tt, (omega arith, omega arith))

@@ -1,12 +1,12 @@
-use Prim.Native.Nat.{◌-◌, ◌≤◌}
-use Rattle.tables.specs.Rows.{Wide}
-use Rattle.mark_hits.proofs.Anchors.{AnchorsFound}
+-- The rows are the anchors of the bigs so far; no big before place `from` ends behind the last of them.
+use Rattle.std.proofs.Common.{◌≡◌, ◌≤◌, map, take, length}
+use Rattle.rows.specs.Rows.{rows_in}
+use Rattle.mark_hits.specs.Anchors.{place_behind, anchor_at, ends_in}
 use Rattle.mark_hits.proofs.anchors_of.Given as goal
 
-abbrev pub invariant-loop-i : goal.invariant-loop-i
-invariant-loop-i l =
-    (l.n ≤ l.i) × (l.i ≤ l.side.anchors) × (l.side.anchors ≤ l.side.bigs) × (l.side.bigs ≤ 256) × (l.from ≤ l.side.bigs) × Wide l.anchors l.cs
-    × AnchorsFound l.side l.bars l.prices l.anchors l.cs l.n l.last l.from l.i
-
-abbrev pub decreases-loop-i : goal.decreases-loop-i
-decreases-loop-i l = l.side.anchors - l.i
+abbrev pub invariant-loop-big : goal.invariant-loop-big
+invariant-loop-big l = record {
+  are : rows_in l.anchors ≡ map (anchor_at l.bigs l.side.buy) (ends_in (take l.big-index l.big-items));
+  in_bounds : l.from ≤ length l.bigs;
+  passed : l.from ≤ place_behind l.last l.bigs;
+}

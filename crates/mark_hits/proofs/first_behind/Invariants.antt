@@ -1,9 +1,7 @@
-use Prim.Native.Nat.{◌-◌, ◌≤◌}
-use Rattle.mark_hits.specs.Anchors.{FirstBehind}
+-- No big so far ends behind the bar.
+use Rattle.std.proofs.Common.{◌≤◌, ◌+◌}
+use Rattle.mark_hits.specs.Anchors.{place_behind}
 use Rattle.mark_hits.proofs.first_behind.Given as goal
 
-abbrev pub invariant-loop-k : goal.invariant-loop-k
-invariant-loop-k l = (l.m ≤ 256) × (l.k ≤ l.m) × FirstBehind l.m l.bars l.prices l.last l.place l.after l.k
-
-abbrev pub decreases-loop-k : goal.decreases-loop-k
-decreases-loop-k l = l.m - l.k
+abbrev pub invariant-loop-i : goal.invariant-loop-i
+invariant-loop-i l = l.place + l.i ≤ place_behind l.after l.bigs

@@ -1,38 +1,23 @@
--- `mark_rows::insert_bar` meets its contract. Assumes nothing.
-use Prim.Native.Nat.{◌<◌, ◌≤◌}
-use native.Mathlib.Omega.{arith}
-use mathlib.Core.Path.{◌≡◌, refl, ◌∙◌}
-use lib.ListN.{get_or, length}
-use Rattle.mark_rows.proofs.Bars.{inserted-none, inserted_new}
-use Rattle.mark_rows.proofs.insert_bar.Goals.{Joined-at-n, Start}
+use Rattle.std.proofs.Common.{◌≤◌, ◌<◌, ℕ, length, get_or, length-take, arith, ◌∙◌}
+use Rattle.std.proofs.Math.Seq.{take-take}
+use Rattle.std.proofs.lemmas.List.Sorted.{searched}
+use Rattle.mark_rows.proofs.Bars.{rising-at, insert-there, insert-new}
+use Rattle.mark_rows.proofs.insert_bar.Goals.{After-binary_search}
 use Rattle.mark_rows.proofs.insert_bar.Goals as goal
-use Rattle.mark_rows.proofs.insert_bar.Goals.{then-at-n+else-bars-at, else-at-n}
 
-long : (c : Start) → c.args.n ≤ length c.args.bars.now
-long c = omega arith
+pub returns-in-Ok : goal.returns-in-Ok
+returns-in-Ok g c =
+    let up : (i j : ℕ) → i ≤ j → j < length c.listed.result.now → get_or c.listed.result.now i 0 ≤ get_or c.listed.result.now j 0 =
+    rw c.listed.ensures (rising-at _ c.requires.rising) in
+    let s = rw c.in-Ok.is at (searched c.listed.result.now c.args.bar c.binary_search.result c.binary_search.ensures.position up) in
+    let t = rw c.listed.ensures at s in
+    insert-there _ _ _ c.requires.rising t.0 t.1
 
--- where the bar is not put aside, another one stands in its place
-other :
-    (c : Joined-at-n)
-    → let found = c.before in
-    let args = found.args in
-    found.bar_place-at.result < args.n → get_or args.bars.now found.bar_place-at.result 0 ≡ args.bar → ⊥
-other c h e = elim c.if-at-n.branch [ then-at-n+else-bars-at w ↦ w.if-bars-at.false e | else-at-n w ↦ omega arith ]
-
-pub start_at-start-requires : goal.start_at-start-requires
-start_at-start-requires c = (long c.before, c.requires.1, c.requires.2)
-
-pub bar_place-at-requires : goal.bar_place-at-requires
-bar_place-at-requires c =
-    (long c.before.before, c.start_at-start.ensures.upper_bound, c.start_at-start.ensures.all)
-
-pub returns-then-bars-at : goal.returns-then-bars-at
-returns-then-bars-at c = record { bars_after = inserted-none _ _ _ _ c.requires.0 c.bar_place-at.ensures.upper_bound c.bar_place-at.ensures.all c.if-at-n.true c.if-bars-at.true; bars_len_unchanged = refl; n_le_count = (omega arith, omega arith, omega arith) }
-
-pub returns : goal.returns
-returns c = record {
-  bars_after = c.put_in.ensures.bars_after
-      ∙ inserted_new _ _ _ _ c.requires.0 c.bar_place-at.ensures.upper_bound c.bar_place-at.ensures.all c.bar_place-at.ensures.bar_bound (other c.before.before.before.before.before);
-  bars_len_unchanged = c.put_in.ensures.bars_len_unchanged;
-  n_le_count = (omega arith, omega arith, omega arith);
-}
+pub returns-in-Err : goal.returns-in-Err
+returns-in-Err g c =
+    let up : (i j : ℕ) → i ≤ j → j < length c.listed.result.now → get_or c.listed.result.now i 0 ≤ get_or c.listed.result.now j 0 =
+    rw c.listed.ensures (rising-at _ c.requires.rising) in
+    let s = rw c.in-Err.is at (searched c.listed.result.now c.args.bar c.binary_search.result c.binary_search.ensures.position up) in
+    let t = rw c.listed.ensures at s in
+    let within : c.in-Err.at ≤ c.args.bars.now.count = omega (arith, t.0, length-take c.args.bars.now.count c.args.bars.now.rows) in
+    c.insert.ensures ∙ rw (← take-take c.in-Err.at c.args.bars.now.count c.args.bars.now.rows within) (insert-new _ _ c.in-Err.at t.0 t.1 t.2)

@@ -1,10 +1,12 @@
-use Prim.Native.Nat.{◌-◌}
-use Rattle.mark_rows.proofs.Numbers.{Numbering}
+use mathlib.Core.List.{foldl}
+use Rattle.rules.specs.Marks.{push_3n}
+use Rattle.rows.specs.Rows.{rows_in}
+use Rattle.mark_hits.specs.Quotes.{quotes_of}
+use Rattle.mark_rows.specs.Numbered.{bar_marks}
+use Rattle.mark_rows.proofs.Numbered.{Numbering}
 use Rattle.mark_rows.proofs.number_bars.Given as goal
 
-abbrev pub invariant-loop-i : goal.invariant-loop-i
-invariant-loop-i l =
-    Numbering l.bars l.k l.buy l.zeros l.n l.initial.keys l.initial.orders l.keys l.orders l.next l.count l.i
-
-abbrev pub decreases-loop-i : goal.decreases-loop-i
-decreases-loop-i l = l.k - l.i
+abbrev pub invariant-loop-bar : goal.invariant-loop-bar
+invariant-loop-bar l =
+    Numbering (quotes_of l.quotes) l.thirds l.buy l.rest (foldl push_3n (rows_in l.fn.marks) (bar_marks (quotes_of l.quotes) l.thirds l.buy l.bars))
+    (rows_in l.marks) l.order l.bar-index

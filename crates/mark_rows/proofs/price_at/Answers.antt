@@ -1,12 +1,8 @@
--- `mark_rows::price_at` meets its contract. Assumes nothing.
-use mathlib.Core.Path.{refl}
-use Rattle.rules.specs.Marks.{price_at}
+use lib.Ieee.{of_bits}
+use Rattle.std.proofs.Common.{◌∙◌}
+use Rattle.mark_rows.proofs.Prices.{price-is}
 use Rattle.mark_rows.proofs.price_at.Goals as goal
 
-pub returns-then-buy : goal.returns-then-buy
-unfolding price_at
-returns-then-buy c = rw c.if-buy.true refl
-
 pub returns : goal.returns
-unfolding price_at
-returns c = rw c.if-buy.false refl
+unfolding of_bits
+returns c = c.unwrap_or.ensures ∙ price-is _ _ _ _ c.quote_at.ensures

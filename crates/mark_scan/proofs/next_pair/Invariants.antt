@@ -1,18 +1,9 @@
-use Prim.Native.Nat.{ℕ, ◌-◌, ◌<◌, ◌≤◌}
 use mathlib.Core.Path.{◌≡◌}
-use mathlib.Core.Bool.{Bool}
-use lib.ListN.{drop}
-use Rattle.rules.specs.Marks.{pair_ends}
 use Rattle.rules.specs.Records.{Levels}
-use Rattle.tables.specs.Tables.{Bigs}
-use Rattle.mark_scan.specs.Scan.{Limits}
+use Rattle.tables.specs.Tables.{bigs_of}
+use Rattle.mark_scan.specs.Scan.{pairs_from}
 use Rattle.mark_scan.proofs.next_pair.Given as goal
 
+-- the pairs from place k on are left
 abbrev pub invariant-loop-k : goal.invariant-loop-k
-invariant-loop-k l =
-    (l.from ≤ l.k) × (l.k < 65536)
-    × ((c : Levels) (stop : ℕ → Bool) → Bigs c l.m l.bars l.prices → Limits l.limit stop
-    → pair_ends c stop l.d (drop l.from c.bigs) ≡ pair_ends c stop l.d (drop l.k c.bigs))
-
-abbrev pub decreases-loop-k : goal.decreases-loop-k
-decreases-loop-k l = l.m - l.k
+invariant-loop-k l = (c : Levels) → l.bigs ≡ bigs_of c → pairs_from c l.scan l.from ≡ pairs_from c l.scan l.k

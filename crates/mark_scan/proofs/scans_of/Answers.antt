@@ -1,20 +1,39 @@
--- `mark_scan::scans_of` meets its contract. The invariant: the scans of the first i zones. Assumes nothing.
+-- `mark_scan::scans_of` meets its contract. The invariant: the scans of the zones so far. Assumes nothing.
+use Prim.Native.Nat.{◌+◌}
 use native.Mathlib.Omega.{arith}
-use lib.ListN.{length-set}
-use Rattle.mark_scan.proofs.Scans.{scans-next, scans-all}
+use mathlib.Core.Path.{◌≡◌, refl, ap, ◌∙◌}
+use lib.ListN.{length, length-take}
+use Rattle.std.proofs.lemmas.List.{take_more, length_push}
+use Rattle.rows.specs.Rows.{rows_in}
+use Rattle.mark_scan.specs.Scan.{ZoneScans}
+use Rattle.mark_scan.proofs.Scans.{scans-more, start-known}
 use Rattle.mark_scan.proofs.scans_of.Goals as goal
 
 pub loop-i-init : goal.loop-i-init
-loop-i-init c = (omega arith, c.requires.2, λ j h. absurd (omega arith))
+loop-i-init c = (refl, λ l t. (ZoneScans.no_scans, tt))
+
+pub scan_of-scan-requires : goal.scan_of-scan-requires
+scan_of-scan-requires c = record { here = (c.loop-i-test.true, c.requires.owned); rise = c.starts_rise-rise.ensures }
+
+pub push-requires : goal.push-requires
+push-requires c =
+    let inv = c.loop-i.invariant.0 in
+    let whole = c.loop-i.scans.whole in
+    let few = c.requires.room in
+    let long = length-take c.loop-i.scans.count c.loop-i.scans.rows in
+    (omega arith, (omega arith, omega arith))
 
 pub loop-i-preserved : goal.loop-i-preserved
 loop-i-preserved c =
-    let inv = c.loop-i.invariant in (
-      omega (arith, c.loop-i-test.true),
-      simp length-set inv.1,
-      scans-next _ _ _ _ _ c.loop-i.scans c.loop-i.i inv.2 _ (omega (arith, inv.1, c.loop-i-test.true, c.requires.0.zones)) c.scan_of.ensures,
+    let push = c.push.ensures in
+    let inv = c.loop-i.invariant in
+    let zones = c.args.zones.now in
+    let i = c.loop-i.i in
+    let one : length (rows_in c.push.new.self) ≡ i + 1 = ap length push ∙ length_push _ c.scan_of-scan.result ∙ ap (λ n. n + 1) inv.0 in (
+      one,
+      λ l t.
+          let so_far = inv.1 l t in
+          let scan = c.scan_of-scan.ensures l _ t so_far.1 in
+          let more = take_more zones i _ c.loop-i-test.true in
+          (rw (push, more) (scans-more l so_far.0 _ _ scan), start-known l _ _ scan),
     )
-
-pub returns : goal.returns
-returns c =
-    let inv = c.loop-i.invariant in record { scans_len = inv.1; scanned = scans-all _ _ _ _ _ c.loop-i.scans c.loop-i.i inv.2 c.loop-i-test.false }

@@ -1,33 +1,23 @@
--- `mark_superiors::superior_bars` meets its contract. The invariant: the bars so far, with those of the superior's zones that are left put
--- in, come to all. Assumes nothing.
-use borrow.Author.Rules.{rules}
-use Rattle.mark_superiors.proofs.SuperiorBars.{taken-first, taken-over, taken-other, taken_next}
+-- `mark_superiors::superior_bars` meets its contract. The invariant: the zones before place i have their bars put in. Assumes nothing.
+use mathlib.Core.Path.{refl}
+use Rattle.mark_superiors.proofs.SuperiorBars.{zones-first, zones-over, zones-other, zones-next}
 use Rattle.mark_superiors.proofs.superior_bars.Goals as goal
 
 pub loop-i-init : goal.loop-i-init
-loop-i-init c = taken-first _ _ _ _ _ _ _ c.requires.fits.1
+loop-i-init c l t all = zones-first l c.args.h c.args.scans.now c.args.from _ refl
 
-pub scan_at-scan-requires : goal.scan_at-scan-requires
-scan_at-scan-requires c =
-    let few = c.requires.fits.0.zones in
-    search rules
+pub returns-then-scans-i : goal.returns-then-scans-i
+returns-then-scans-i c l own later t all =
+    zones-other l c.args.h c.args.scans.now all c.args.from _ c.loop-i.i (c.loop-i.invariant l t all) _ c.loop-i-test.true c.if-scans-i.true own later
 
-pub returns-then-scan-h : goal.returns-then-scan-h
-returns-then-scan-h c =
-    let inv = c.loop-i.invariant in record { count_bound = (inv.low, inv.wide); takes_block = taken-other _ _ _ _ _ _ _ _ _ inv _ c.scan_at-scan.ensures c.if-scan-h.true }
-
-pub zone_bars-count-requires : goal.zone_bars-count-requires
-zone_bars-count-requires c =
-    let chart = c.requires.by_index in
-    let inv = c.loop-i.invariant in
-    record { m_bound = (c.requires.fits.0.bigs, inv.wide, inv.low); bigs = (chart.0, chart.2.bigs, inv.among chart.0 chart.1 chart.2 chart.3) }
+pub zone_bars-requires-clause-among : goal.zone_bars-requires-clause-among
+zone_bars-requires-clause-among c = let (l, t, all) = c.requires.of_levels in (l, t, (c.loop-i.invariant l t all).among)
 
 pub loop-i-preserved : goal.loop-i-preserved
-loop-i-preserved c =
-    let met = c.zone_bars-count in
-    taken_next _ _ _ _ _ _ _ _ _ c.loop-i.invariant _ c.scan_at-scan.ensures c.loop-i-test.true c.if-scan-h.false
-    _ _ met.ensures.puts_pairs met.ensures.upper_bound.0 met.ensures.upper_bound.1
+loop-i-preserved c l t all =
+    zones-next l c.args.h c.args.scans.now all c.args.from _ c.loop-i.i (c.loop-i.invariant l t all) _ c.loop-i-test.true c.if-scans-i.false
+    _ (c.zone_bars.ensures l t)
 
 pub returns : goal.returns
-returns c =
-    let inv = c.loop-i.invariant in record { count_bound = (inv.low, inv.wide); takes_block = taken-over _ _ _ _ _ _ _ _ _ inv c.loop-i-test.false }
+returns c l own later t all =
+    zones-over l c.args.h c.args.scans.now all c.args.from _ c.loop-i.i (c.loop-i.invariant l t all) c.loop-i-test.false own later

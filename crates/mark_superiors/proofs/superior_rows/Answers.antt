@@ -1,46 +1,34 @@
--- `mark_superiors::superior_rows` meets its contract. The invariant: the rows so far, with the marks of the superiors that are left pushed,
--- come to all; and the zones of those superiors are the ones from place `at` on. Assumes nothing.
-use native.Mathlib.Omega.{arith}
-use mathlib.Core.Path.{refl}
-use Rattle.mark_superiors.proofs.ZoneBars.{room_among}
-use Rattle.mark_superiors.proofs.SuperiorRows.{numbered-first, numbered-all, numbered_next, bars-there}
+-- `mark_superiors::superior_rows` meets its contract. The invariant: the superiors so far have their rows, and the zones of the others are
+-- those from place `at` on. Assumes nothing.
+use mathlib.Core.Path.{refl, ◌∙◌}
+use Rattle.mark_superiors.proofs.ZoneOrder.{rest_zones_first, block, bars-own, rest-zones-next}
+use Rattle.mark_superiors.proofs.SuperiorRows.{superior_inside, rows-all, rows-room, rows-next}
 use Rattle.mark_superiors.proofs.superior_rows.Goals as goal
 
-pub loop-i-init : goal.loop-i-init
-loop-i-init c = numbered-first _ _ _ _ _ _ _ _ _ refl
+pub loop-h-init : goal.loop-h-init
+loop-h-init c l t = (rest_zones_first l, refl)
 
-pub superior_bars-taken-requires : goal.superior_bars-taken-requires
-superior_bars-taken-requires c =
-    let chart = c.requires.scanned in record { fits = (c.requires.fits.0, c.loop-i.invariant.wide); by_index = (chart.0, _, chart.1, room_among _ _ _ chart.2) }
+pub superior_bars-at-requires : goal.superior_bars-at-requires
+superior_bars-at-requires c = let (l, t, h) = c.requires.room in record { few = c.requires.few; of_levels = (l, t.bigs, t.scanned) }
 
-pub number_bars-count-requires : goal.number_bars-count-requires
-number_bars-count-requires c =
-    let pre = c.requires in
-    let inv = c.loop-i.invariant in
-    let block = c.superior_bars-taken.result in
-    let got = c.superior_bars-taken.ensures in record {
-      k_in_bounds = (
-        omega (arith, got.count_bound),
-        omega (arith, got.count_bound),
-        omega (arith, inv.grown.more),
-        omega (arith, inv.grown.long, pre.fits.1),
-        omega (arith, inv.grown.wide, pre.fits.2),
-      );
-      by_index = (
-        _,
-        inv.room pre.scanned.0 pre.scanned.1 pre.scanned.2,
-        bars-there _ _ _ _ _ _ _ _ _ _ _ _ _ _ inv c.loop-i-test.true block.count block.next c.superior_bars-taken.new.out got.takes_block pre.scanned.0 pre.scanned.1,
-      );
-    }
+pub number_bars-requires-clause-room : goal.number_bars-requires-clause-room
+number_bars-requires-clause-room c =
+    let (l, t, h) = c.requires.room in
+    let (zones, rows) = c.loop-h.invariant l t in
+    let inside = superior_inside l _ t.superiors c.loop-h.h c.loop-h-test.true in
+    let taken = c.superior_bars-at.ensures l _ _ t.bigs t.scanned (block l c.loop-h.h c.loop-h.at zones inside) in
+    rows-room l _ _ _ _ c.loop-h.h rows _ t.superiors _ c.loop-h-test.true _ refl _
+    (c.listed.ensures ∙ taken.0 ∙ bars-own l c.loop-h.h c.loop-h.at zones inside) h
 
-pub loop-i-preserved : goal.loop-i-preserved
-loop-i-preserved c =
-    let rows = c.number_bars-count.ensures in
-    let block = c.superior_bars-taken.result in
-    let got = c.superior_bars-taken.ensures in
-    numbered_next _ _ _ _ _ _ _ _ _ _ _ _ _ _ c.loop-i.invariant c.loop-i-test.true block.count block.next c.superior_bars-taken.new.out
-    got.takes_block _ _ _ _ got.count_bound.1 rows.numbers_bars rows.keeps_room rows.grown refl
+pub loop-h-preserved : goal.loop-h-preserved
+loop-h-preserved c l t =
+    let (zones, rows) = c.loop-h.invariant l t in
+    let inside = superior_inside l _ t.superiors c.loop-h.h c.loop-h-test.true in
+    let taken = c.superior_bars-at.ensures l _ _ t.bigs t.scanned (block l c.loop-h.h c.loop-h.at zones inside) in (
+      rest-zones-next l c.loop-h.h c.loop-h.at zones inside _ taken.1,
+      rows-next l _ _ _ _ c.loop-h.h rows _ t.superiors _ c.loop-h-test.true _ refl _
+          (c.listed.ensures ∙ taken.0 ∙ bars-own l c.loop-h.h c.loop-h.at zones inside) _ c.number_bars.ensures,
+    )
 
 pub returns : goal.returns
-returns c =
-    let inv = c.loop-i.invariant in record { numbers_superiors = numbered-all _ _ _ _ _ _ _ _ _ _ _ _ _ _ inv c.loop-i-test.false; keeps_ends = inv.room; grown = inv.grown }
+returns c l t = rows-all l _ _ _ _ c.loop-h.h (c.loop-h.invariant l t).1 _ t.superiors c.loop-h-test.false

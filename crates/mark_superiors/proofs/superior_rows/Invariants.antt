@@ -1,10 +1,13 @@
-use Prim.Native.Nat.{◌-◌}
+use Rattle.rows.specs.Rows.{rows_in}
+use Rattle.rules.specs.Records.{Levels}
+use Rattle.mark_hits.specs.Quotes.{quotes_of}
+use Rattle.mark_superiors.specs.Superiors.{ScansOf}
+use Rattle.mark_superiors.proofs.ZoneOrder.{RestZones}
 use Rattle.mark_superiors.proofs.SuperiorRows.{RowsSoFar}
 use Rattle.mark_superiors.proofs.superior_rows.Given as goal
 
-abbrev pub invariant-loop-i : goal.invariant-loop-i
-invariant-loop-i l =
-    RowsSoFar l.sups l.scans l.bars l.prices l.counts l.zeros l.initial.keys l.initial.orders l.keys l.orders l.out l.count l.at l.i
-
-abbrev pub decreases-loop-i : goal.decreases-loop-i
-decreases-loop-i l = l.counts.superiors - l.i
+-- the superiors so far have their rows, and the zones of the others are those from place `at` on
+abbrev pub invariant-loop-h : goal.invariant-loop-h
+invariant-loop-h l =
+    (c : Levels) → ScansOf c l.bigs l.superiors l.scans
+    → RestZones c l.h l.at × RowsSoFar c (quotes_of l.quotes) l.thirds (rows_in l.initial.marks) (rows_in l.marks) l.h

@@ -1,9 +1,14 @@
 use Prim.Native.Nat.{◌-◌}
+use mathlib.Core.Path.{◌≡◌}
+use lib.ListN.{length}
+use Rattle.rows.specs.Rows.{rows_in}
+use Rattle.rules.specs.Records.{Levels}
+use Rattle.tables.specs.Tables.{bigs_of}
 use Rattle.mark_superiors.proofs.ZoneBars.{PairsSoFar}
 use Rattle.mark_superiors.proofs.zone_bars.Given as goal
 
-abbrev pub invariant-loop-at : goal.invariant-loop-at
-invariant-loop-at l = PairsSoFar l.bars l.prices l.m l.scan l.initial.out l.k l.out l.count l.hint l.at
+abbrev pub invariant-loop-pair : goal.invariant-loop-pair
+invariant-loop-pair l = (c : Levels) → l.bigs ≡ bigs_of c → PairsSoFar c l.scan (rows_in l.initial.bars) (rows_in l.bars) l.at
 
-abbrev pub decreases-loop-at : goal.decreases-loop-at
-decreases-loop-at l = l.m - l.at
+abbrev pub decreases-loop-pair : goal.decreases-loop-pair
+decreases-loop-pair l = length l.bigs - l.at

@@ -1,21 +1,17 @@
-use Prim.Native.Nat.{◌+◌, ◌-◌, ◌≤◌}
-use mathlib.Core.Path.{◌≡◌}
-use mathlib.Core.List.{List, foldl}
-use lib.ListN.{length, take}
-use Rattle.chart.specs.declared.ThirdMark.{ThirdMark}
+-- The marks of the anchors that are left, put behind those that are there, give those of all.
+use Rattle.std.proofs.Common.{◌≡◌, ◌≤◌, ◌+◌, drop}
+use mathlib.Core.List.{foldl}
+use Rattle.rows.specs.Rows.{rows_in}
 use Rattle.rules.specs.Lists.{each}
-use Rattle.rules.specs.Records.{Levels}
-use Rattle.rules.specs.Marks.{add_third, anchor_third}
-use Rattle.tables.specs.Tables.{Bigs}
-use Rattle.mark_hits.specs.Anchors.{anchors_in}
-use Rattle.mark_thirds.specs.Third.{Marked}
+use Rattle.rules.specs.Marks.{add_third}
+use Rattle.mark_hits.specs.Quotes.{quotes_of}
+use Rattle.mark_thirds.specs.Third.{anchor_mark}
 use Rattle.mark_thirds.proofs.anchor_marks.Given as goal
 
-abbrev pub invariant-loop-i : goal.invariant-loop-i
-invariant-loop-i l =
-    (l.i ≤ l.n) × (l.found ≤ l.count) × (l.count ≤ l.found + l.i) × (length l.keys ≡ length l.initial.keys) × (length l.marks ≡ 512)
-    × ((c : Levels) (ms : List ThirdMark) → Bigs c l.side.bigs l.bars l.prices → Marked l.found l.found l.initial.keys l.initial.marks ms
-    → Marked l.found l.count l.keys l.marks (foldl add_third ms (each (anchor_third c (record { highs = l.highs; lows = l.lows }) l.side.buy) (take l.i (anchors_in c l.side)))))
-
-abbrev pub decreases-loop-i : goal.decreases-loop-i
-decreases-loop-i l = l.n - l.i
+abbrev pub invariant-loop-anchor : goal.invariant-loop-anchor
+invariant-loop-anchor l = record {
+  few : l.marks.count ≤ l.fn.marks.count + l.anchor-index;
+  marks :
+      foldl add_third (rows_in l.marks) (each (anchor_mark l.bigs (quotes_of l.quotes) l.side.buy) (drop l.anchor-index l.anchor-items))
+      ≡ foldl add_third (rows_in l.fn.marks) (each (anchor_mark l.bigs (quotes_of l.quotes) l.side.buy) l.anchor-items);
+}

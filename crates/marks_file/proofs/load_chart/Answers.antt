@@ -1,13 +1,10 @@
--- `marks_file::load_chart` meets its contract. Assumes nothing.
-use native.Mathlib.Omega.{arith}
-use mathlib.Core.Path.{sym, ◌∙◌}
-use Rattle.marks_file.proofs.Read.{long-loaded, short-read}
+-- A file that is too long is refused, and any other one is read. Assumes nothing.
+use Rattle.std.proofs.Common.{sym, ◌∙◌}
+use Rattle.marks_file.proofs.Read.{long-refused, short-read}
 use Rattle.marks_file.proofs.load_chart.Goals as goal
 
-pub returns-then-file-gt65536 : goal.returns-then-file-gt65536
-returns-then-file-gt65536 c =
-    let r = c.refusal.ensures in
-    long-loaded c.args.file.now _ _ _ _ c.if-file-gt65536.true r.0 r.1 r.2
+pub returns-then-file-gt65536-clause-chart_value : goal.returns-then-file-gt65536-clause-chart_value
+returns-then-file-gt65536-clause-chart_value c = sym (long-refused c.args.file.now c.if-file-gt65536.true)
 
-pub returns : goal.returns
-returns c = c.read_chart.ensures ∙ sym (short-read c.args.file.now (omega arith))
+pub returns-clause-chart_value : goal.returns-clause-chart_value
+returns-clause-chart_value c = c.read_chart.ensures.chart_value ∙ sym (short-read c.args.file.now c.if-file-gt65536.false)

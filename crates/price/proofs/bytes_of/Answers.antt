@@ -1,8 +1,5 @@
--- `price::bytes_of` meets its contract. Assumes nothing.
-use mathlib.Core.Path.{◌≡◌}
-use mathlib.Core.List.{List, [], ◌∷◌}
-use Prim.Native.Nat.{ℕ}
-use native.Mathlib.Omega.{arith}
+-- The library's bytes are each a quotient by a power of 256, modulo 256. Assumes nothing.
+use Rattle.std.proofs.Common.{◌≡◌, ℕ, List, [], ◌∷◌, arith}
 use Rattle.price.specs.Bytes.{bytes_of}
 use Rattle.price.proofs.bytes_of.Goals as goal
 
@@ -12,4 +9,4 @@ eight i j k l m n o p = cc
 
 pub returns : goal.returns
 unfolding bytes_of
-returns c = eight (omega arith) (omega arith) (omega arith) (omega arith) (omega arith) (omega arith) (omega arith) (omega arith)
+returns c = rw c.to_le_bytes.ensures (eight (omega arith) (omega arith) (omega arith) (omega arith) (omega arith) (omega arith) (omega arith) (omega arith))

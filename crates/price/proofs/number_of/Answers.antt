@@ -7,4 +7,4 @@ use Rattle.price.proofs.number_of.Goals as goal
 pub returns : goal.returns
 returns c =
     let s = c.args.s.now in
-    omega (arith, four_bytes s 0 4 (omega arith), four_bytes s 4 0 (omega arith), no_bytes (drop 8 s))
+    rw c.from_le_bytes.ensures (omega (arith, four_bytes s 0 4 (omega arith), four_bytes s 4 0 (omega arith), no_bytes (drop 8 s)))

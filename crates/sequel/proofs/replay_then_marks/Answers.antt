@@ -1,46 +1,13 @@
 -- `sequel::replay_then_marks` meets its contract. Assumes nothing.
-use Prim.Native.Nat.{◌≤◌}
-use lib.ListN.{length}
-use lib.Seq.{length-take-le}
-use borrow.Author.Rules.{rules}
-use Rattle.sequel.proofs.Sequels.{room, after}
+use Rattle.std.proofs.Common.{arith}
+use Rattle.std.proofs.lemmas.Grind.{common_steps}
+use Rattle.sequel.proofs.Sequels.{followed, bad}
 use Rattle.sequel.proofs.replay_then_marks.Goals as goal
+
+pub returns-in_err-run : goal.returns-in_err-run
+returns-in_err-run c = let e = bad _ _ c.in_err-run.ensures in grind (arith, common_steps, e)
 
 pub returns : goal.returns
 returns c =
-    after _ _ c.replay-run.ensures
-    c.bigseg_third_marks_all_zhongshu-thirds.ensures
-    c.bigseg_3n_marks_all_zhongshu-marks.ensures
-
--- the log's bars are places of both arrays
-pub slice_bounds-highs-end : goal.slice_bounds-highs-end
-slice_bounds-highs-end c = (room _ _ c.replay-run.ensures).0
-
-pub slice_bounds-bigseg_third_marks_all_zhongshu-end : goal.slice_bounds-bigseg_third_marks_all_zhongshu-end
-slice_bounds-bigseg_third_marks_all_zhongshu-end c =
-    let h : c.replay-run.result.bars ≤ length c.replay-run.result.highs = (room _ _ c.replay-run.ensures).0 in
-    search (rules, length-take-le, h)
-
-pub slice_bounds-lows-end : goal.slice_bounds-lows-end
-slice_bounds-lows-end c = (room _ _ c.replay-run.ensures).1
-
-pub slice_bounds-bigseg_third_marks_all_zhongshu-end-2 : goal.slice_bounds-bigseg_third_marks_all_zhongshu-end-2
-slice_bounds-bigseg_third_marks_all_zhongshu-end-2 c =
-    let h : c.replay-run.result.bars ≤ length c.replay-run.result.lows = (room _ _ c.replay-run.ensures).1 in
-    search (rules, length-take-le, h)
-
-pub slice_bounds-highs-end-2 : goal.slice_bounds-highs-end-2
-slice_bounds-highs-end-2 c = (room _ _ c.replay-run.ensures).0
-
-pub slice_bounds-bigseg_3n_marks_all_zhongshu-end : goal.slice_bounds-bigseg_3n_marks_all_zhongshu-end
-slice_bounds-bigseg_3n_marks_all_zhongshu-end c =
-    let h : c.replay-run.result.bars ≤ length c.replay-run.result.highs = (room _ _ c.replay-run.ensures).0 in
-    search (rules, length-take-le, h)
-
-pub slice_bounds-lows-end-2 : goal.slice_bounds-lows-end-2
-slice_bounds-lows-end-2 c = (room _ _ c.replay-run.ensures).1
-
-pub slice_bounds-bigseg_3n_marks_all_zhongshu-end-2 : goal.slice_bounds-bigseg_3n_marks_all_zhongshu-end-2
-slice_bounds-bigseg_3n_marks_all_zhongshu-end-2 c =
-    let h : c.replay-run.result.bars ≤ length c.replay-run.result.lows = (room _ _ c.replay-run.ensures).1 in
-    search (rules, length-take-le, h)
+    followed _ _ c.in_ok-run.ensures (rw (c.listed-highs.ensures, c.listed-lows.ensures) at c.bigseg_third_marks_all_zhongshu-thirds.ensures)
+    (rw (c.listed-highs.ensures, c.listed-lows.ensures) at c.bigseg_3n_marks_all_zhongshu-marks.ensures)

@@ -1,33 +1,32 @@
--- `tables::superiors_of` meets its contract. The invariant: the first k rows are the first k superiors. Assumes nothing.
-use native.Mathlib.Omega.{arith}
-use mathlib.Core.Path.{◌≡◌, refl}
-use lib.ListN.{length, length-set}
-use Rattle.tables.proofs.Sups.{sups_more, sups_all}
-use Rattle.tables.proofs.superiors_of.Goals.{Start}
+-- `tables::superiors_of` meets its contract. Assumes nothing.
+use Rattle.std.proofs.Common.{rules}
+use Rattle.rules.specs.Records.{levels_of}
+use Rattle.tables.specs.Tables.{superior_of}
+use Rattle.tables.proofs.Filled.{few_taken, room_left, one_filled}
 use Rattle.tables.proofs.superiors_of.Goals as goal
 
-long : (c : Start) → length c.args.superiors ≡ 256
-long c = omega arith
+pub loop-s-init : goal.loop-s-init
+loop-s-init c =
+    let few = c.requires in
+    record {
+      items = c.superiors-s-items.ensures;
+      few = rw c.superiors-s-items.ensures (few_taken _ 256 c.args.chart.now.superiors few);
+      made = search rules;
+    }
 
-pub loop-k-init : goal.loop-k-init
-loop-k-init c = (omega arith, c.requires.2, λ l prices t. refl)
+pub push-requires : goal.push-requires
+push-requires c =
+    let l = c.loop-s.invariant in
+    let made = room_left (superior_of (levels_of c.args.chart.now)) c.superiors-s-items.result.now c.loop-s.s-index c.loop-s.superiors in
+    let room = made l.made c.loop-s-test.true l.few in
+    search rules
 
-pub loop-k-preserved : goal.loop-k-preserved
-loop-k-preserved c =
-    let turn = c.before.before in
-    let head = turn.before in
-    let start = head.before in
-    let inv = head.loop-k.invariant in (
-      omega arith,
-      simp length-set inv.1,
-      λ l prices t. sups_more l head.loop-k.k _ head.loop-k.sups _ (omega (arith, turn.loop-k-test.true, start.requires.0, long start))
-          (omega (arith, turn.loop-k-test.true, start.requires.0, inv.1))
-          (c.superior_row.ensures l prices t) (inv.2 l prices t),
-    )
-
-pub returns : goal.returns
-returns c =
-    let head = c.before in
-    let start = head.before in
-    let inv = head.loop-k.invariant in
-    λ l prices t own. sups_all l _ head.loop-k.k _ _ (omega (arith, start.requires.0, long start)) c.loop-k-test.false inv.0 (inv.2 l prices t) own
+pub loop-s-preserved : goal.loop-s-preserved
+loop-s-preserved c =
+    let l = c.loop-s.invariant in
+    let row = rw c.superior_of.ensures at c.push.ensures in
+    record {
+      items = l.items;
+      few = l.few;
+      made = one_filled (superior_of (levels_of c.args.chart.now)) c.superiors-s-items.result.now c.loop-s.s-index _ _ _ row l.made c.loop-s-test.true;
+    }

@@ -1,16 +1,12 @@
-use Prim.Native.Nat.{◌-◌, ◌≤◌}
-use mathlib.Core.Path.{◌≡◌}
-use mathlib.Core.List.{List, map}
-use lib.ListN.{length, take}
-use lib.Ieee.{Float}
-use Rattle.rules.specs.Records.{Levels}
-use Rattle.tables.specs.Tables.{Bigs, sup_of, sup_in}
+use Rattle.std.proofs.Common.{◌≡◌, ◌≤◌, length, take, map}
+use Rattle.rows.specs.Rows.{rows_in}
+use Rattle.rules.specs.Records.{levels_of}
+use Rattle.tables.specs.Tables.{superior_of}
 use Rattle.tables.proofs.superiors_of.Given as goal
 
-abbrev pub invariant-loop-k : goal.invariant-loop-k
-invariant-loop-k l =
-    (l.k ≤ l.n) × (length l.sups ≡ 256) × ((c : Levels) (prices : List (List Float)) → Bigs c l.m l.bars prices
-    → map sup_in (take l.k l.sups) ≡ map (sup_of c) (take l.k l.superiors))
-
-abbrev pub decreases-loop-k : goal.decreases-loop-k
-decreases-loop-k l = l.n - l.k
+abbrev pub invariant-loop-s : goal.invariant-loop-s
+invariant-loop-s l = record {
+  items : l.s-items ≡ take l.chart.superior_count l.chart.superiors;
+  few : length l.s-items ≤ 256;
+  made : rows_in l.superiors ≡ map (superior_of (levels_of l.chart)) (take l.s-index l.s-items);
+}

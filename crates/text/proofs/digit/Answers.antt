@@ -1,9 +1,13 @@
--- `text::digit` meets its contract. Assumes nothing.
-use Rattle.text.proofs.Digits.{digit_below, digit_above}
+-- A digit below ten, and a letter. Assumes nothing.
+use Rattle.std.proofs.Common.{arith}
+use borrow.Author.Tests.{lt-ltb, le-ltb}
+use Rattle.rules.specs.Text.{hex_digit}
 use Rattle.text.proofs.digit.Goals as goal
 
 pub returns-then-d-lt10 : goal.returns-then-d-lt10
-returns-then-d-lt10 c = digit_below _ c.if-d-lt10.true
+unfolding hex_digit
+returns-then-d-lt10 c = rw (lt-ltb c.args.d 10 c.if-d-lt10.true)
 
 pub returns-else-d-lt10 : goal.returns-else-d-lt10
-returns-else-d-lt10 c = digit_above _ c.if-d-lt10.false
+unfolding hex_digit
+returns-else-d-lt10 c = rw (le-ltb c.args.d 10 c.if-d-lt10.false) (omega arith)

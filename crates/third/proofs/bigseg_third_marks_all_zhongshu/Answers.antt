@@ -1,55 +1,35 @@
 -- `third::bigseg_third_marks_all_zhongshu` meets its contract. Assumes nothing.
-use Prim.Native.Nat.{ℕ, ◌≤◌}
-use native.Mathlib.Omega.{arith}
-use mathlib.Core.Path.{◌≡◌, refl, sym, ◌∙◌}
-use lib.ListN.{length}
-use Rattle.chart.specs.declared.Chart.{Chart}
-use mathlib.Core.List.{List}
-use lib.Ieee.{Float}
-use Rattle.mark_hits.specs.Found.{quotes_refusal}
-use Rattle.zones.specs.Filled.{call_number}
-use Rattle.zones.proofs.Call.{own_none}
-use Rattle.mark_scan.proofs.Scans.{tables_owners}
-use Rattle.mark_hits.proofs.Quotes.{quotes_fit}
+use Rattle.std.proofs.Common.{◌≡◌, ◌∙◌, ap, arith, refl}
+use Rattle.std.proofs.lemmas.Result.{err_from_is_err_and}
+use Rattle.chart.specs.Numbers.{number_of}
+use Rattle.rules.specs.Answer.{given}
+use Rattle.rules.specs.Records.{Quotes, levels_of}
+use Rattle.laws.proofs.Answers.{positive}
+use Rattle.mark_scan.specs.Scan.{TablesOf}
+use Rattle.mark_scan.proofs.Scans.{owned}
 use Rattle.third.proofs.Call.{third_by}
-use Rattle.third.proofs.Rows.{bars_small}
 use Rattle.third.proofs.bigseg_third_marks_all_zhongshu.Goals as goal
 
--- slices that are not refused with 8 or 1 are short enough
-short :
-    (chart : Chart) (highs lows : List Float) (own n : ℕ) → own ≡ quotes_refusal (record { highs = highs; lows = lows }) 0
-    → n ≡ call_number chart own → n ≡ 0 → (length highs ≤ 0x1_0000) × (length lows ≤ 0x1_0000)
-short chart highs lows own n is number none =
-    let fit = quotes_fit highs lows (sym (own_none chart own (sym number ∙ none)) ∙ is) in
-    (fit.0, fit.1)
+pub returns-in_err-tables_of : goal.returns-in_err-tables_of
+returns-in_err-tables_of c =
+    let p = err_from_is_err_and c.from_residual.result c.from_residual.ensures.1 in
+    let q : Quotes = record { highs = c.args.highs.now; lows = c.args.lows.now } in
+    let e = c.in_err-tables_of.field-0.0 in
+    let by = third_by c.args.chart.now q _ c.quotes_refusal.ensures (number_of e) c.in_err-tables_of.ensures.number in
+    rw (p.1, p.2) (by.0 (λ (z : number_of e ≡ 0). omega (arith, positive e)))
 
-pub tables_of-begun-requires : goal.tables_of-begun-requires
-tables_of-begun-requires c = ((refl, refl), (refl, refl), refl)
-
-pub returns-then-begun-ne0 : goal.returns-then-begun-ne0
-returns-then-begun-ne0 c =
-    c.refusal.ensures ∙ (third_by _ _ _ c.quotes_refusal-own.ensures _ c.tables_of-begun.ensures.number_value).0 c.if-begun-ne0.true
-
-pub scans_of-requires : goal.scans_of-requires
-scans_of-requires c =
-    let t = c.tables_of-begun.ensures.tables c.if-begun-ne0.false in
-    (t.fits, tables_owners _ _ _ _ _ _ _ t, refl)
-
-pub thirds_of-found-requires : goal.thirds_of-found-requires
-thirds_of-found-requires c =
-    let few = short _ c.args.highs.now c.args.lows.now _ _ c.quotes_refusal-own.ensures c.tables_of-begun.ensures.number_value c.if-begun-ne0.false in
-    ((c.tables_of-begun.ensures.tables c.if-begun-ne0.false).fits, few.0, few.1, (omega arith, refl))
-
-pub rows_of-requires : goal.rows_of-requires
-rows_of-requires c =
-    let few = short _ c.args.highs.now c.args.lows.now _ _ c.quotes_refusal-own.ensures c.tables_of-begun.ensures.number_value c.if-begun-ne0.false in
-    let t = c.tables_of-begun.ensures.tables c.if-begun-ne0.false in
-    let marked = c.thirds_of-found.ensures.gathers_thirds _ _ t (c.scans_of.ensures.scanned _ _ t) in
-    let room = c.thirds_of-found.ensures.all_bound in
-    (room.0, omega (arith, room.0, room.1.0), bars_small _ _ _ _ _ _ marked few.0 few.1)
+pub scans_of-requires-clause-owned : goal.scans_of-requires-clause-owned
+scans_of-requires-clause-owned c =
+    let t = c.in_ok-tables_of.ensures.tables in
+    owned (levels_of c.args.chart.now) _ _ _
+    (record { bigs = c.listed-bigs.ensures ∙ t.bigs; superiors = c.listed-superiors.ensures ∙ t.superiors; zones = c.listed-zones.ensures ∙ t.zones })
 
 pub returns : goal.returns
 returns c =
-    let t = c.tables_of-begun.ensures.tables c.if-begun-ne0.false in
-    c.rows_of.ensures _ (c.thirds_of-found.ensures.gathers_thirds _ _ t (c.scans_of.ensures.scanned _ _ t))
-    ∙ (third_by _ _ _ c.quotes_refusal-own.ensures _ c.tables_of-begun.ensures.number_value).1 c.if-begun-ne0.false
+    let q : Quotes = record { highs = c.args.highs.now; lows = c.args.lows.now } in
+    let by = third_by c.args.chart.now q _ c.quotes_refusal.ensures 0 c.in_ok-tables_of.ensures.number in
+    let t = c.in_ok-tables_of.ensures.tables in
+    let tables : TablesOf (levels_of c.args.chart.now) c.listed-bigs.result.now c.listed-superiors.result.now c.listed-zones.result.now =
+    record { bigs = c.listed-bigs.ensures ∙ t.bigs; superiors = c.listed-superiors.ensures ∙ t.superiors; zones = c.listed-zones.ensures ∙ t.zones } in
+    let marks = c.thirds_of.ensures (levels_of c.args.chart.now) tables (rw c.listed.ensures (c.scans_of.ensures (levels_of c.args.chart.now) tables)) in
+    ap given marks ∙ by.1 refl

@@ -1,9 +1,7 @@
-use Prim.Native.Nat.{◌-◌}
-use Rattle.zones.proofs.Tables.{Between}
+use Rattle.std.proofs.Common.{◌≡◌, ◌++◌, drop}
+use Rattle.rows.specs.Rows.{rows_in}
+use Rattle.zones.specs.Overlap.{all_zones}
 use Rattle.zones.proofs.overlap.Given as goal
 
 abbrev pub invariant-loop-h : goal.invariant-loop-h
-invariant-loop-h l = Between l.n l.m l.sups l.bars l.prices l.count l.zb l.zp l.h
-
-abbrev pub decreases-loop-h : goal.decreases-loop-h
-decreases-loop-h l = l.n - l.h
+invariant-loop-h l = rows_in l.zones ++ all_zones l.members l.h (drop l.h l.owners) ≡ all_zones l.members 0 l.owners

@@ -1,82 +1,74 @@
--- `zones::owner_zones` meets its contract. The invariant: the zones that are put, with those of the run and of the records to come, are the
--- owner's. Assumes nothing.
-use native.Mathlib.Omega.{arith}
-use mathlib.Core.Path.{refl, sym, ◌∙◌}
-use borrow.Author.Tests.{not-true, not-false}
-use Rattle.zones.proofs.Tables.{starts-scan, past_same, past-missing, goes_on, puts_one, no_room, ends_on, ends-puts, ends-full}
+-- `zones::owner_zones` meets its contract. Assumes nothing.
+use Rattle.std.proofs.Common.{◌≡◌, ◌+◌, ◌++◌, List, arith, ap, ◌∙◌, drop, append-nil}
+use Rattle.chart.specs.declared.Zone.{Zone}
+use Rattle.rows.specs.Rows.{rows_in}
+use Rattle.tables.proofs.Filled.{count-rows}
+use Rattle.zones.specs.Overlap.{capped, runs_from, opposing_in, zones_in, zone_in}
+use Rattle.zones.proofs.Scan.{capped_few, capped_given, capped_refused, passed, next, skipped, begins, put_on, last_zone, no_zone, at_end}
+use Rattle.std.proofs.lemmas.Result.{err_from_is_err_and}
+use Rattle.std.specs.Prelude.{Some}
+use Rattle.zones.proofs.owner_zones.Goals.{After-take_member-taken, in-Some-closed+in_ok-put, in_default-closed}
 use Rattle.zones.proofs.owner_zones.Goals as goal
 
-pub loop-at-init : goal.loop-at-init
-loop-at-init c = (c.requires.1, starts-scan _ _ _ _ _ _ _ _ _ _ refl c.requires.0 c.requires.2)
+pub returns-in_default : goal.returns-in_default
+returns-in_default c =
+    rw (skipped c.args.members.now c.args.h c.args.owner c.in_default.ensures.lookup.0, append-nil)
+    (capped_few _ (omega (arith, count-rows c.args.zones.now)))
 
-pub loop-at-preserved-then-way_at-direction : goal.loop-at-preserved-then-way_at-direction
-loop-at-preserved-then-way_at-direction c =
-    let inv = c.loop-at.invariant in
-    (inv.0, past_same _ _ _ _ _ _ _ _ _ _ _ _ _ _ _ inv.1 c.loop-at-test.true (sym c.way_at.ensures ∙ c.if-way_at-direction.true))
-
-pub loop-at-preserved-in_default : goal.loop-at-preserved-in_default
-loop-at-preserved-in_default c =
-    let inv = c.loop-at.invariant in
-    (inv.0, past-missing _ _ _ _ _ _ _ _ _ _ _ _ _ _ _ inv.1 c.loop-at-test.true (sym c.range_at.ensures ∙ c.in_default.is))
-
-pub take_member-next-requires : goal.take_member-next-requires
-take_member-next-requires c =
-    omega (arith, c.loop-at.invariant.0, c.loop-at.invariant.1.short, c.loop-at-test.true)
-
-pub loop-at-preserved-then-not-next : goal.loop-at-preserved-then-not-next
-loop-at-preserved-then-not-next c =
-    let inv = c.loop-at.invariant in (
-      inv.0,
-      goes_on _ _ _ _ _ _ _ _ _ _ _ _ _ _ _ inv.1 c.loop-at-test.true (λ e. c.if-way_at-direction.false (c.way_at.ensures ∙ e)) _
-          (sym c.range_at.ensures ∙ c.in-Found.is) c.take_member-next.result.closed c.take_member-next.result.run
-          (c.take_member-next.ensures.members_bound, c.take_member-next.ensures.takes) (not-true _ c.if-not-next.true),
-    )
-
-pub returns-then-count-eq256 : goal.returns-then-count-eq256
-returns-then-count-eq256 c =
-    let inv = c.loop-at.invariant in record {
-      upper_bound = (omega arith, inv.1.wide);
-      owner_zones = no_room _ _ _ _ _ _ _ _ _ _ _ _ _ _ _ inv.1 c.loop-at-test.true (λ e. c.if-way_at-direction.false (c.way_at.ensures ∙ e)) _
-          (sym c.range_at.ensures ∙ c.in-Found.is) c.take_member-next.result.closed c.take_member-next.result.run
-          (c.take_member-next.ensures.members_bound, c.take_member-next.ensures.takes) (not-false _ c.if-not-next.false) c.if-count-eq256.true;
+pub loop-i-init : goal.loop-i-init
+loop-i-init c =
+    let own = c.in-Some.ensures.lookup in
+    record {
+      members = omega arith;
+      left = rw own.0.2 (ap (λ (zs : List Zone). rows_in c.args.zones.now ++ zs) (begins c.args.members.now c.args.h c.args.owner own.0.1));
     }
 
-pub put_zone-requires : goal.put_zone-requires
-put_zone-requires c =
-    let inv = c.loop-at.invariant.1 in
-    (omega (arith, inv.few, c.if-count-eq256.false), inv.wide)
-
-pub overflow_add-count : goal.overflow_add-count
-overflow_add-count c =
-    let inv = c.loop-at.invariant.1 in
-    omega (arith, inv.few)
-
-pub loop-at-preserved : goal.loop-at-preserved
-loop-at-preserved c =
-    let inv = c.loop-at.invariant in (
-      inv.0,
-      puts_one _ _ _ _ _ _ _ _ _ _ _ _ _ _ _ inv.1 c.loop-at-test.true (λ e. c.if-way_at-direction.false (c.way_at.ensures ∙ e)) _
-          (sym c.range_at.ensures ∙ c.in-Found.is) c.take_member-next.result.closed c.take_member-next.result.run
-          (c.take_member-next.ensures.members_bound, c.take_member-next.ensures.takes) _ _ (not-false _ c.if-not-next.false) c.if-count-eq256.false c.put_zone.ensures,
-    )
-
-pub returns-then-not-begun : goal.returns-then-not-begun
-returns-then-not-begun c =
-    let inv = c.loop-at.invariant.1 in record { upper_bound = (omega (arith, inv.few), inv.wide); owner_zones = ends_on _ _ _ _ _ _ _ _ _ _ _ _ _ _ _ inv c.loop-at-test.false (not-true _ c.if-not-begun.true-raw) }
-
-pub returns-then-count-eq256-2 : goal.returns-then-count-eq256-2
-returns-then-count-eq256-2 c =
-    let inv = c.loop-at.invariant.1 in record { upper_bound = (omega arith, inv.wide); owner_zones = ends-full _ _ _ _ _ _ _ _ _ _ _ _ _ _ _ inv c.loop-at-test.false (not-false _ c.if-not-begun.false-raw) c.if-count-eq256-2.true }
-
-pub put_zone-requires-2 : goal.put_zone-requires-2
-put_zone-requires-2 c =
-    let inv = c.loop-at.invariant.1 in
-    (omega (arith, inv.few, c.if-count-eq256-2.false), inv.wide)
-
-pub returns : goal.returns
-returns c =
-    let inv = c.loop-at.invariant.1 in record {
-      upper_bound = (omega (arith, inv.few), c.put_zone-2.ensures.wide);
-      owner_zones = ends-puts _ _ _ _ _ _ _ _ _ _ _ _ _ _ _ inv c.loop-at-test.false _ _ (not-false _ c.if-not-begun.false-raw)
-          c.if-count-eq256-2.false c.put_zone-2.ensures;
+pub loop-i-preserved-in_default-opposing : goal.loop-i-preserved-in_default-opposing
+loop-i-preserved-in_default-opposing c =
+    let l = c.loop-i.invariant in
+    record {
+      members = omega arith;
+      left = rw (passed c.args.owner.direction c.args.owner.first c.loop-i.i c.in-Some.own.now _ c.loop-i-test.true c.in_default-opposing.ensures) at l.left;
     }
+
+-- a member is taken: what the scan has left
+left :
+    (c : After-take_member-taken)
+    → rows_in c.loop-i.zones ++ (zone_in c.take_member-taken.result.closed ++ runs_from c.args.h (Some c.take_member-taken.result.run)
+    (opposing_in c.args.owner.direction (c.args.owner.first + (c.loop-i.i + 1)) (drop (c.loop-i.i + 1) c.in-Some.own.now)))
+    ≡ rows_in c.args.zones.now ++ zones_in c.args.members.now c.args.h c.args.owner
+left c =
+    let rest = opposing_in c.args.owner.direction (c.args.owner.first + (c.loop-i.i + 1)) (drop (c.loop-i.i + 1) c.in-Some.own.now) in
+    let taken = c.take_member-taken.ensures.takes rest in
+    let s = c.in-Some-opposing in
+    let n = next c.args.owner.direction c.args.owner.first c.loop-i.i c.in-Some.own.now _ c.loop-i-test.true s.span s.ensures in
+    ap (λ (zs : List Zone). rows_in c.loop-i.zones ++ zs) taken ∙ (rw n at c.loop-i.invariant.left)
+
+pub returns-in_err-put : goal.returns-in_err-put
+returns-in_err-put c =
+    let p = err_from_is_err_and c.from_residual.result c.from_residual.ensures.1 in
+    let l = rw c.in-Some-closed.is at (left c.before.before.before.before.before.before) in
+    rw (p.1, p.2) (capped_refused _ _ _ _ c.in_err-put.ensures (put_on _ _ _ _ l))
+
+pub loop-i-preserved : goal.loop-i-preserved
+loop-i-preserved c =
+    let t = c.take_member-taken.ensures.members in
+    let before = left c.before.before in
+    record {
+      members = omega (arith, t);
+      left = elim c.match-taken.branch [
+        | in-Some-closed+in_ok-put w ↦
+            rw (w.zones-is, capped_given _ _ w.in_ok-put.ensures) (put_on _ _ _ _ (rw w.in-Some-closed.is at before))
+        | in_default-closed w ↦ rw w.zones-is (rw w.in_default-closed.is at before)
+      ];
+    }
+
+pub returns-in-Some-run : goal.returns-in-Some-run
+returns-in-Some-run c = let n = at_end c.args.owner.direction c.args.owner.first c.loop-i.i c.in-Some.own.now c.loop-i-test.false in
+    let all = rw (n, c.in-Some-run.is) at c.loop-i.invariant.left in
+    c.put-in-Some-run.ensures ∙ ap capped (last_zone _ _ _ _ all)
+
+pub returns-in-None : goal.returns-in-None
+returns-in-None c = let n = at_end c.args.owner.direction c.args.owner.first c.loop-i.i c.in-Some.own.now c.loop-i-test.false in
+    let all = rw (n, c.in-None.is) at c.loop-i.invariant.left in
+    capped_few _ (omega (arith, count-rows c.loop-i.zones)) ∙ ap capped (no_zone _ _ _ all)

@@ -1,11 +1,11 @@
-use Prim.Native.Nat.{◌+◌, ◌-◌, ◌<◌}
-use Rattle.zones.proofs.Tables.{Scanning}
+use Rattle.std.proofs.Common.{◌≡◌, ◌≤◌, ◌+◌, ◌++◌, drop}
+use Rattle.rows.specs.Rows.{rows_in}
+use Rattle.zones.specs.Overlap.{runs_from, members_in, opposing_in, zones_in}
 use Rattle.zones.proofs.owner_zones.Given as goal
 
-abbrev pub invariant-loop-at : goal.invariant-loop-at
-invariant-loop-at l =
-    (l.last < 256) × Scanning l.h l.direction l.initial.at l.last l.bars l.prices l.k l.initial.zb l.initial.zp l.count l.zb l.zp l.begun l.run l.at
-
-abbrev pub decreases-loop-at : goal.decreases-loop-at
-decreases-loop-at l =
-    l.last + 1 - l.at
+abbrev pub invariant-loop-i : goal.invariant-loop-i
+invariant-loop-i l = record {
+  members : members_in l.run ≤ l.i;
+  left : rows_in l.zones ++ runs_from l.h l.run (opposing_in l.owner.direction (l.owner.first + l.i) (drop l.i l.own))
+      ≡ rows_in l.initial.zones ++ zones_in l.members l.h l.owner;
+}

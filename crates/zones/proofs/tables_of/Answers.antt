@@ -1,88 +1,44 @@
 -- `zones::tables_of` meets its contract. Assumes nothing.
-use native.Mathlib.Omega.{arith}
-use mathlib.Core.Path.{◌≡◌, refl, sym, ◌∙◌}
-use mathlib.Core.Bool.{false}
+use Rattle.std.proofs.Common.{◌≡◌, arith, ◌∙◌}
+use Rattle.std.proofs.lemmas.Result.{err_from_is_err_and, on_ok_weaker}
+use Rattle.rows.specs.Rows.{rows_in}
+use Rattle.rules.specs.Answer.{answer_of}
 use Rattle.rules.specs.Records.{levels_of}
-use Rattle.rules.specs.Refusals.{bad_chart}
 use Rattle.rules.specs.Zones.{overlap_zones}
 use Rattle.laws.proofs.Answers.{counted}
-use Rattle.tables.specs.Tables.{Bigs, Sups}
-use Rattle.tables.proofs.Bigs.{bigs-members}
-use Rattle.tables.proofs.Sups.{sups_owners}
-use Rattle.zones.specs.Filled.{Filled}
-use Rattle.zones.proofs.Call.{number-bad, number-own, number-many, number-few}
-use Rattle.zones.proofs.tables_of.Goals.{After-overlap-count, After-superiors_of, Else-bigs_of, Else-own-ne0, Start}
+use Rattle.tables.proofs.Filled.{few_taken, count-rows}
+use Rattle.zones.specs.Overlap.{capped}
+use Rattle.zones.proofs.Call.{is_good, number-bad, number-own, number-zones, number-capped, rows-capped, over_bigs}
+use Rattle.zones.proofs.tables_of.Goals.{After-overlap}
 use Rattle.zones.proofs.tables_of.Goals as goal
 
--- the places of the code that the proof goes back to
-abbrev else1 : Else-own-ne0 → Else-bigs_of
-else1 c = c.before
+pub returns-in_err-bigs_of-clause-number : goal.returns-in_err-bigs_of-clause-number
+returns-in_err-bigs_of-clause-number c =
+    let p = err_from_is_err_and c.from_residual.result c.from_residual.ensures.1 in
+    rw (p.1, p.2) (number-bad _ _ _ c.in_err-bigs_of.ensures.number)
 
-abbrev else2 : After-superiors_of → Else-own-ne0
-else2 c = c.before.before.before.before.before
-
-abbrev listed : After-overlap-count → After-superiors_of
-listed c = c.before.before.before
-
-abbrev start : Else-bigs_of → Start
-start c = c.before.before.before.before
-
--- the chart is not refused with 21
-good : (c : Else-bigs_of) → bad_chart (start c).args.chart ≡ false
-good c = sym c.bigs_of.ensures.value ∙ c.if-bigs_of.false
-
--- the tables of its bigs, superiors and zones
-bigs :
-    (c : Else-bigs_of)
-    → Bigs (levels_of (start c).args.chart) (start c).args.chart.big_count c.bigs_of.new.bars c.bigs_of.new.prices
-bigs c = c.bigs_of.ensures.bigs c.if-bigs_of.false
-
-superiors :
-    (c : After-superiors_of)
-    → Sups (levels_of (start (else1 (else2 c))).args.chart) (start (else1 (else2 c))).args.chart.superior_count c.superiors_of.new.sups
-unfolding levels_of
-superiors c = c.superiors_of.ensures _ _ (bigs c.before.before.before.before.before.before) refl
-
-zones :
-    (c : After-overlap-count)
-    → Filled c.overlap-count.result c.overlap-count.new.zb c.overlap-count.new.zp
-    (overlap_zones (levels_of (start (else1 (else2 (listed c)))).args.chart))
-unfolding overlap_zones
-zones c =
-    c.overlap-count.ensures.all_zones _ _ _ (bigs-members _ _ _ _ (bigs c.before.before.before.before.before.before.before.before.before)) (sups_owners _ _ _ (superiors c.before.before.before))
-
-pub returns-then-bigs_of : goal.returns-then-bigs_of
-returns-then-bigs_of c =
-    let number = c.no_tables.ensures ∙ number-bad _ _ (sym c.bigs_of.ensures.value ∙ c.if-bigs_of.true) in record { number_value = number; tables = λ none. absurd (omega (arith, none, c.no_tables.ensures)); wide = c.requires.1 }
-
-pub returns-then-own-ne0 : goal.returns-then-own-ne0
-returns-then-own-ne0 c =
-    let number = c.no_tables-then-own-ne0.ensures ∙ number-own _ _ (good c.before.before) c.if-own-ne0.true in record { number_value = number; tables = λ none. absurd (c.if-own-ne0.true (sym c.no_tables-then-own-ne0.ensures ∙ none)); wide = c.requires.1 }
+pub returns-in_err-own-clause-number : goal.returns-in_err-own-clause-number
+returns-in_err-own-clause-number c =
+    let p = err_from_is_err_and c.from_residual-in_err-own.result c.from_residual-in_err-own.ensures.1 in
+    rw (p.1, p.2, c.in_err-own.was) (number-own _ (is_good _ c.in_ok-bigs_of.ensures.number) _)
 
 pub superiors_of-requires : goal.superiors_of-requires
-superiors_of-requires c =
-    let fits = counted _ (good c.before.before.before.before.before) in
-    (fits.superiors, fits.bigs, c.requires.2)
+superiors_of-requires c = (counted c.args.chart.now (is_good _ c.in_ok-bigs_of.ensures.number)).superiors
 
-pub overlap-count-requires : goal.overlap-count-requires
-overlap-count-requires c =
-    let fits = counted _ (good c.before.before.before.before.before.before.before.before) in
-    (fits.superiors, fits.bigs, c.requires.1)
+pub overlap-requires : goal.overlap-requires
+overlap-requires c =
+    let n = counted c.args.chart.now (is_good _ c.in_ok-bigs_of.ensures.number) in
+    (rw c.superiors.ensures (few_taken _ 256 _ n.superiors), rw c.listed.ensures (omega (arith, count-rows c.bigs_of.new.bigs)))
 
-pub returns-then-count-gt256 : goal.returns-then-count-gt256
-returns-then-count-gt256 c =
-    let number = c.no_tables-then-count-gt256.ensures ∙ number-many _ _ (good c.before.before.before.before.before.before.before.before.before.before.before) c.if-own-ne0.false _ _ _ (zones c.before.before) c.if-count-gt256.true in record { number_value = number; tables = λ none. absurd (omega (arith, none, c.no_tables-then-count-gt256.ensures)); wide = c.overlap-count.ensures.upper_bound.1 }
+-- the zones are those of the rule
+zones : (c : After-overlap) → answer_of (λ u. rows_in c.overlap.new.zones) c.overlap.result ≡ capped (overlap_zones (levels_of c.args.chart.now))
+unfolding levels_of
+zones c = over_bigs (levels_of c.args.chart.now) _ _ _ c.overlap.ensures (c.listed.ensures ∙ c.in_ok-bigs_of.ensures.bigs) c.superiors.ensures
 
-pub returns : goal.returns
-returns c =
-    let fits = counted _ (good c.before.before.before.before.before.before.before.before.before.before) in
-    let own = (zones c.before).few (omega arith) in record {
-      number_value = number-few _ _ (good c.before.before.before.before.before.before.before.before.before.before) c.if-own-ne0.false _ _ _ (zones c.before) (omega arith);
-      tables = λ _. record {
-        fits = record { bigs = fits.bigs; superiors = fits.superiors; zones = omega arith };
-        bigs = bigs c.before.before.before.before.before.before.before.before.before.before;
-        superiors = superiors c.before.before.before.before;
-        zones = own;
-      };
-      wide = c.overlap-count.ensures.upper_bound.1;
-    }
+pub returns-clause-number : goal.returns-clause-number
+returns-clause-number c = rw c.in_ok-own.was (number-capped _ _ _ (zones c) ∙ number-zones _ (is_good _ c.in_ok-bigs_of.ensures.number))
+
+pub returns-clause-tables : goal.returns-clause-tables
+returns-clause-tables c =
+    on_ok_weaker c.overlap.result (λ are. record { bigs = c.in_ok-bigs_of.ensures.bigs; superiors = c.superiors_of.ensures; zones = are })
+    (rows-capped _ _ c.overlap.result (zones c))

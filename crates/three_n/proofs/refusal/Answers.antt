@@ -1,6 +1,0 @@
--- `three_n::refusal` meets its contract. Assumes nothing.
-use Rattle.laws.proofs.Answers.{refused-rows}
-use Rattle.three_n.proofs.refusal.Goals as goal
-
-pub returns : goal.returns
-returns c = refused-rows _ _ c.requires

@@ -1,6 +1,0 @@
--- `zones::refusal` meets its contract. Assumes nothing.
-use Rattle.laws.proofs.Answers.{refused-rows}
-use Rattle.zones.proofs.refusal.Goals as goal
-
-pub returns : goal.returns
-returns c = refused-rows _ _ c.requires
