@@ -6,10 +6,11 @@ ghost use Rattle.std.specs.Prelude.{◌≤◌};
 
 use std::env::Env;
 
-// An argument as text, in a lent buffer: none where there is none, where it is too long, or where it is not UTF-8.
-pub fn word<'a, R: Env>(rt: &R, i: usize, buffer: &'a mut [u8]) -> Option<&'a str> {
-    let n = rt.arg(i, buffer).ok()?;
-    str::from_utf8(&buffer[..n]).ok()
+// The first eight bytes of an argument, with zeros behind one that is shorter; all zeros where there is none.
+pub fn word<R: Env>(rt: &R, i: usize) -> [u8; 8] {
+    let mut bytes = [0; 8];
+    let _ = rt.arg(i, &mut bytes);
+    bytes
 }
 
 // A decimal digit's value; 0 of any other byte.
@@ -22,10 +23,8 @@ fn value(byte: u8) -> u32
     }
 }
 
-// The number that an argument of at most eight bytes is.
-pub fn number<R: Env>(rt: &R, i: usize) -> u32 {
-    let mut digits = [0; 8];
-    let _ = rt.arg(i, &mut digits);
+// The number of the digits before the first zero byte; another byte counts as a digit 0.
+pub fn number(digits: [u8; 8]) -> u32 {
     let mut n = 0u32;
     for byte in digits {
         if byte == 0 {

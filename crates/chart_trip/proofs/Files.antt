@@ -10,8 +10,7 @@ use Rattle.chart.specs.Numbers.{number_of}
 use Rattle.laws.proofs.Answers.{positive}
 use Rattle.rules.specs.Records.{levels_of}
 use Rattle.rules.specs.File.{written, write_refusal, buffer_after}
-use Rattle.laws.proofs.FileBytes.{wide}
-use Rattle.laws.proofs.FileHeld.{any_level}
+use Rattle.laws.specs.Records.{wide, any_level}
 use Rattle.laws.proofs.FileBack.{chart_writable}
 use Rattle.laws.proofs.FileSame.{same-file}
 use Rattle.chart_trip.specs.Same.{Writing, refusal_of, same_refusal, file_after, Compared}

@@ -19,8 +19,7 @@ use Rattle.rules.specs.Lists.{any}
 use Rattle.rules.specs.Records.{levels_of}
 use borrow.Author.Tests.{lt-leb}
 use Rattle.laws.proofs.Tests.{or_i}
-use Rattle.laws.proofs.FileBytes.{wide_two, wide}
-use Rattle.laws.proofs.FileHeld.{any_level}
+use Rattle.laws.specs.Records.{wide_two, wide, any_level}
 
 narrow_two : (a b : ℕ) → a < 65536 → b < 65536 → wide_two a b ≡ false
 narrow_two a b h k = or_i _ _ (lt-leb 65536 a h) (lt-leb 65536 b k)

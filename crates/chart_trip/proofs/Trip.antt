@@ -17,8 +17,7 @@ use Rattle.rules.specs.Refusals.{bad_chart}
 use Rattle.rules.specs.File.{Content, written, write_refusal, write_call, buffer_after, read_file}
 use Rattle.laws.proofs.Tests.{refuse_no, refuse-on}
 use Rattle.laws.proofs.Answers.{positive, answer-ok, answer-err}
-use Rattle.laws.proofs.FileBytes.{wide}
-use Rattle.laws.proofs.FileHeld.{any_level}
+use Rattle.laws.specs.Records.{wide, any_level}
 use Rattle.laws.proofs.FileBack.{read_back, chart_writable}
 use Rattle.chart_trip.specs.Trip.{trip_call, ReadsBack}
 

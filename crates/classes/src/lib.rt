@@ -21,7 +21,7 @@ use rows::Rows;
 
 // A segment or a big, by its direction and the prices of its first and last stroke.
 #[derive(Clone, Copy)]
-struct Item {
+pub struct Item {
     pub direction: u8,
     pub start: f64,
     pub end: f64,

@@ -16,10 +16,9 @@ ghost use Rattle.labels.specs.Bytes.{label_bytes, Extends};
 ghost use Rattle.labels.specs.Touching.{bars_in, touch};
 ghost use Rattle.labels.specs.Steps.{named_in, next_name, mark, name_bytes};
 
-use chart::{Chart, Label, Range, Refusal, Zone};
+use chart::{Chart, Label, NO_ZONE, Range, Refusal, Zone};
 use rows::Rows;
-use tables::Big;
-use zones::Tables;
+use tables::{Big, NO_BIG, NO_SUPERIOR};
 
 const NO_LABEL: Label = Label {
     bytes: [0; 16],
@@ -106,13 +105,13 @@ const NO_BARS: Bars = Bars { start: 0, end: 0 };
 fn bars_in(range: Range) -> Option<Bars>
     ensures { option_of result ≡ bars_in range }
 {
-    match range {
-        Range::Found(s) => Some(Bars {
-            start: s.start_bar,
-            end: s.end_bar,
-        }),
-        Range::Missing => None,
-    }
+    let Range::Found(s) = range else {
+        return None;
+    };
+    Some(Bars {
+        start: s.start_bar,
+        end: s.end_bar,
+    })
 }
 
 // The bars of the ranges that are there. They stand close together, since each zone looks at all.
@@ -193,8 +192,10 @@ fn labels_of(zones: &[Zone], bars: &[Bars]) -> Rows<Label, 256>
 pub fn detect_bigseg_trend_zhongshus(chart: &Chart) -> Result<Rows<Label, 256>, Refusal>
     ensures { answer_of (λ r. map label_bytes (rows_in r)) result ≡ labels_call chart.now }
 {
-    let mut tables = Tables::new();
-    zones::tables_of(chart, Ok(()), &mut tables)?;
-    let bars = bars_of(tables.bigs.listed());
-    Ok(labels_of(tables.zones.listed(), bars.listed()))
+    let mut bigs = Rows::new(NO_BIG);
+    let mut superiors = Rows::new(NO_SUPERIOR);
+    let mut zones = Rows::new(NO_ZONE);
+    zones::fill_tables(chart, Ok(()), &mut bigs, &mut superiors, &mut zones)?;
+    let bars = bars_of(bigs.listed());
+    Ok(labels_of(zones.listed(), bars.listed()))
 }

@@ -53,19 +53,9 @@ use Rattle.laws.proofs.Tests.{or_l, or_r, or_i}
 use Rattle.laws.proofs.Lists.{All, nil, cons, all_drop}
 use Rattle.laws.proofs.FileSteps.{stroke-kind, read_known, behind-given}
 use Rattle.laws.proofs.FileHeld.{wrong, right_of}
+unfoldable pub use Rattle.laws.specs.Records.{wide_two, wide}
 
 -- ---- a record that can be written
-
--- a bar or an index that no u16 holds
-abbrev pub wide_two : ℕ → ℕ → Bool
-wide_two a b = leb 65536 a || leb 65536 b
-
-unfoldable pub wide : Record → Bool
-wide (stroke s) = wide_two s.start_bar s.end_bar
-wide (segment t) = wide_two t.first t.last
-wide (big t) = wide_two t.first t.last
-wide (superior t) = wide_two t.first t.last
-wide (bar bytes) = false
 
 -- a bar has as many bytes as one takes; a record of another kind is made up of its fields
 abbrev pub Whole : Record → Type 0

@@ -35,6 +35,7 @@ use Rattle.rules.specs.File.{
 }
 use Rattle.laws.proofs.Tests.{or_l, or_r, none_of_four}
 use Rattle.laws.proofs.Lists.{All, nil, cons, all_append, all-image, any_false, false-any}
+pub use Rattle.laws.specs.Records.{any_level}
 
 -- ---- a property of every record of the levels
 
@@ -68,14 +69,6 @@ module _ {P : Record → Type 0} where
       (all-image superior e.superiors)
 
 -- ---- a test that no record passes
-
--- some record of the levels passes
-abbrev pub any_level : (Record → Bool) → Levels → Bool
-any_level p c =
-    any (λ (s : Stroke). p (stroke s)) c.strokes
-    || any (λ (t : Triple). p (segment t)) c.segments
-    || any (λ (t : Triple). p (big t)) c.bigs
-    || any (λ (t : Triple). p (superior t)) c.superiors
 
 module _ (p : Record → Bool) (c : Levels) where
   pub every_any : any_level p c ≡ false → Every (λ (r : Record). p r ≡ false) c

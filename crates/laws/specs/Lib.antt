@@ -1,3 +1,4 @@
 pub mod Lists
 pub mod Put
 pub mod Keys
+pub mod Records

@@ -37,12 +37,7 @@ use Rattle.laws.proofs.Levels.{
   as_long,
 }
 use Rattle.live.specs.Steps.{Good, Steps}
-
--- a good chart that accepts the call
-pub record Accepts (c : Chart) (k : Call) : Type 0 where
-  pub good : bad_chart c ≡ false
-  pub unbroken : broken_levels (levels_of c) ≡ false
-  pub accepted : refusal (levels_of c) k ≡ 0
+pub use Rattle.live.specs.Steps.{Accepts}
 
 pub accepting : (c : Chart) (k : Call) → Good c → 0 ≡ refusal (levels_of c) k → Accepts c k
 accepting c k g e = record { good = g.good; unbroken = g.unbroken; accepted = sym e }

@@ -29,7 +29,7 @@ use Rattle.laws.proofs.Levels.{stroke, above, segment, big, superior, as_long}
 use Rattle.live.specs.declared.Live.{Live}
 use Rattle.live.specs.Did.{data_of, part, Did}
 use Rattle.live.specs.Steps.{Good, Steps}
-use Rattle.live.proofs.Levelled.{Accepts}
+use Rattle.live.proofs.Levelled.{Accepts, accepting}
 
 -- ---- numbers
 
@@ -76,6 +76,10 @@ module _ (c : Chart) (k : Call) (a : Accepts c k) where
 
     no-11 : zones_refusal (levels_of r) ≡ 0
     no-11 = never-11 (levels_of r) (not-broken (levels_of r) kept-order) kept-order.bigs.fit
+
+-- a chart that 21 passes and that no number of the call's own refuses accepts the call
+pub accepts-call : (b : Live) (k : Call) → 0 ≡ refuse (bad_live (data_of b)) 21 0 → 0 ≡ refusal (levels_of b.chart) k → Accepts b.chart k
+accepts-call b k first own = accepting b.chart k (passes (data_of b) first) own
 
 -- ---- the zones afresh, of the records c that an accepted call makes
 

@@ -16,18 +16,19 @@ pub record Good (c : Chart) : Type 0 where
   pub good : bad_chart c ≡ false
   pub unbroken : broken_levels (levels_of c) ≡ false
 
+-- a good chart that accepts the call
+pub record Accepts (c : Chart) (k : Call) : Type 0 where
+  pub good : bad_chart c ≡ false
+  pub unbroken : broken_levels (levels_of c) ≡ false
+  pub accepted : refusal (levels_of c) k ≡ 0
+
 -- the call is accepted on the chart c, and the chart r has the records that it makes of those of c
 pub record Steps (c : Chart) (k : Call) (r : Chart) : Type 0 where
   pub accepted : refusal (levels_of c) k ≡ 0
   pub levels : levels_of r ≡ stepped (levels_of c) k
   pub fits : overfull r ≡ false
 
--- the next chart of a call behind its 21, or its own number
-abbrev pub NextChart : Chart → Call → Result Chart Refusal → Type 0
-NextChart c k (Ok r) = Steps c k r
-NextChart c k (Err e) = number_of e ≡ refusal (levels_of c) k
-
--- the live chart that an accepted call leaves, or the number of a refused one
-abbrev pub NextLive : Live → Call → Result Live Refusal → Type 0
-NextLive b k (Ok d) = Did b k 0 d
-NextLive b k (Err e) = number_of e ≡ live_refusal (data_of b) k
+-- what a call made in place leaves: an accepted one the live chart of its records, a refused one its number and the very chart
+abbrev pub NextLive : {A : Type 0} → Live → Call → Result A Refusal → Live → Type 0
+NextLive b k (Ok u) d = Did b k 0 d
+NextLive b k (Err e) d = (number_of e ≡ live_refusal (data_of b) k) × (d ≡ b)

@@ -5,11 +5,12 @@
 ghost use Rattle.std.specs.Prelude.{◌≡◌, ◌≤◌, map, length};
 ghost use Rattle.chart.specs.Numbers.{number_in};
 ghost use Rattle.rows.specs.Rows.{rows_in};
+ghost use Rattle.rules.specs.Records.{levels_of};
 ghost use Rattle.rules.specs.Refusals.{refuse, bad_live};
 ghost use Rattle.rules.specs.Machine.{add_stroke, add_segment, add_big, add_superior, lengthen, withdraw};
-ghost use Rattle.rules.specs.Machine.{derive_bigs, derive_superiors, call_of, as_triple};
+ghost use Rattle.rules.specs.Machine.{derive_bigs, derive_superiors, call_of, as_triple, refusal};
 ghost use Rattle.live.specs.Did.{data_of, Nothing, Did};
-ghost use Rattle.live.specs.Steps.{Good, NextChart, NextLive};
+ghost use Rattle.live.specs.Steps.{Good, Accepts, Steps, NextLive};
 
 use chart::{Call, Chart, Class, NO_STROKE, NO_TRIPLE, NO_ZONE, Refusal, Stroke, Triple, Zone};
 use rows::Rows;
@@ -45,72 +46,88 @@ pub fn new() -> Live
     }
 }
 
-// ---- the chart that each call makes of one that 21 passes, or the call's own refusal
+// ---- a call's own refusal
+
+// Why a call is refused on a chart that 21 passes, if it is.
+#[tactic(auto, unfolding(rules::specs::Machine::refusal, rules::specs::Records::levels_of))]
+fn refusal_of(chart: &Chart, call: Call) -> Result<(), Refusal>
+    requires { Good chart.now }
+    ensures { number_in result ≡ refusal (levels_of chart.now) (call_of call) }
+{
+    match call {
+        Call::Stroke(s) => calls::stroke_refusal(chart.strokes(), s),
+        Call::Segment(t) => calls::triple_refusal(chart.segments(), chart.strokes().len(), t),
+        Call::Big(t) => calls::triple_refusal(chart.bigs(), chart.segments().len(), t),
+        Call::Superior(t) => calls::triple_refusal(chart.superiors(), chart.bigs().len(), t),
+        Call::Lengthen(last) => {
+            calls::lengthen_refusal(chart.superiors(), chart.bigs().len(), last)
+        }
+        Call::Withdraw(level) => calls::withdraw_refusal(chart, level),
+        Call::DeriveBigs(byte) => calls::derive_refusal(chart.bigs(), byte),
+        Call::DeriveSuperiors(byte) => calls::derive_refusal(chart.superiors(), byte),
+    }
+}
+
+// ---- the chart that each call makes of one that accepts it
 
 // One record more: a stroke, a segment, a big, a superior.
-fn with_stroke(mut chart: Chart, s: Stroke) -> Result<Chart, Refusal>
-    requires { Good chart }
-    ensures { NextChart chart (add_stroke s) result }
+fn with_stroke(mut chart: Chart, s: Stroke) -> Chart
+    requires { Accepts chart (add_stroke s) }
+    ensures { Steps chart (add_stroke s) result }
 {
-    calls::stroke_refusal(chart.strokes(), s)?;
     chart.strokes[chart.stroke_count as usize] = s;
     chart.stroke_count += 1;
-    Ok(chart)
+    chart
 }
 
-fn with_segment(mut chart: Chart, t: Triple) -> Result<Chart, Refusal>
-    requires { Good chart }
-    ensures { NextChart chart (add_segment t) result }
+fn with_segment(mut chart: Chart, t: Triple) -> Chart
+    requires { Accepts chart (add_segment t) }
+    ensures { Steps chart (add_segment t) result }
 {
-    calls::triple_refusal(chart.segments(), chart.strokes().len(), t)?;
     chart.segments[chart.segment_count as usize] = t;
     chart.segment_count += 1;
-    Ok(chart)
+    chart
 }
 
-fn with_big(mut chart: Chart, t: Triple) -> Result<Chart, Refusal>
-    requires { Good chart }
-    ensures { NextChart chart (add_big t) result }
+fn with_big(mut chart: Chart, t: Triple) -> Chart
+    requires { Accepts chart (add_big t) }
+    ensures { Steps chart (add_big t) result }
 {
-    calls::triple_refusal(chart.bigs(), chart.segments().len(), t)?;
     chart.bigs[chart.big_count as usize] = t;
     chart.big_count += 1;
-    Ok(chart)
+    chart
 }
 
-fn with_superior(mut chart: Chart, t: Triple) -> Result<Chart, Refusal>
-    requires { Good chart }
-    ensures { NextChart chart (add_superior t) result }
+fn with_superior(mut chart: Chart, t: Triple) -> Chart
+    requires { Accepts chart (add_superior t) }
+    ensures { Steps chart (add_superior t) result }
 {
-    calls::triple_refusal(chart.superiors(), chart.bigs().len(), t)?;
     chart.superiors[chart.superior_count as usize] = t;
     chart.superior_count += 1;
-    Ok(chart)
+    chart
 }
 
 // The last superior with another last.
-fn lengthened(mut chart: Chart, last: u16) -> Result<Chart, Refusal>
-    requires { Good chart }
-    ensures { NextChart chart (lengthen last) result }
+fn lengthened(mut chart: Chart, last: u16) -> Chart
+    requires { Accepts chart (lengthen last) }
+    ensures { Steps chart (lengthen last) result }
 {
-    calls::lengthen_refusal(chart.superiors(), chart.bigs().len(), last)?;
     chart.superiors[chart.superior_count as usize - 1].last = last;
-    Ok(chart)
+    chart
 }
 
 // The last record of a level dropped.
-fn withdrawn(mut chart: Chart, level: u8) -> Result<Chart, Refusal>
-    requires { Good chart }
-    ensures { NextChart chart (withdraw level) result }
+fn withdrawn(mut chart: Chart, level: u8) -> Chart
+    requires { Accepts chart (withdraw level) }
+    ensures { Steps chart (withdraw level) result }
 {
-    calls::withdraw_refusal(&chart, level)?;
     match level {
         0 => chart.stroke_count -= 1,
         1 => chart.segment_count -= 1,
         2 => chart.big_count -= 1,
         _ => chart.superior_count -= 1,
     }
-    Ok(chart)
+    chart
 }
 
 // A class as a record of the level that is derived.
@@ -138,37 +155,39 @@ fn triples_of(classes: &[Class]) -> Rows<Triple, 256>
 }
 
 // The classes of the segments as bigs.
-fn with_derived_bigs(mut chart: Chart, byte: u8) -> Result<Chart, Refusal>
-    requires { Good chart }
-    ensures { NextChart chart (derive_bigs byte) result }
+fn with_derived_bigs(mut chart: Chart, byte: u8) -> Chart
+    requires { Accepts chart (derive_bigs byte) }
+    ensures { Steps chart (derive_bigs byte) result }
 {
-    calls::derive_refusal(chart.bigs(), byte)?;
-    let found = classes::classify_big_segments(&chart, byte)?;
+    let Ok(found) = classes::classify_big_segments(&chart, byte) else {
+        unreachable!()
+    };
     let triples = triples_of(found.listed());
     let rows = triples.rows;
     chart.bigs = rows;
-    chart.big_count = triples.count;
-    Ok(chart)
+    chart.big_count = triples.count as u16;
+    chart
 }
 
 // The classes of the bigs as superiors.
-fn with_derived_superiors(mut chart: Chart, byte: u8) -> Result<Chart, Refusal>
-    requires { Good chart }
-    ensures { NextChart chart (derive_superiors byte) result }
+fn with_derived_superiors(mut chart: Chart, byte: u8) -> Chart
+    requires { Accepts chart (derive_superiors byte) }
+    ensures { Steps chart (derive_superiors byte) result }
 {
-    calls::derive_refusal(chart.superiors(), byte)?;
-    let found = classes::classify_sup_segments(&chart, byte)?;
+    let Ok(found) = classes::classify_sup_segments(&chart, byte) else {
+        unreachable!()
+    };
     let triples = triples_of(found.listed());
     let rows = triples.rows;
     chart.superiors = rows;
-    chart.superior_count = triples.count;
-    Ok(chart)
+    chart.superior_count = triples.count as u16;
+    chart
 }
 
 // Of any call.
-fn next_chart(chart: Chart, call: Call) -> Result<Chart, Refusal>
-    requires { Good chart }
-    ensures { NextChart chart (call_of call) result }
+fn next_chart(chart: Chart, call: Call) -> Chart
+    requires { Accepts chart (call_of call) }
+    ensures { Steps chart (call_of call) result }
 {
     match call {
         Call::Stroke(s) => with_stroke(chart, s),
@@ -205,32 +224,41 @@ impl Live {
         Ok(())
     }
 
-    // What an accepted call leaves: the new records, their zones afresh, one more in the count. Behind 21 no zones are refused.
-    fn next(&self, call: Call) -> Result<Live, Refusal>
-        ensures { NextLive self.now (call_of call) result }
+    // Any call, made in place: the new records, their zones afresh, one more in the count. A refused one leaves the very chart. Behind 21 no
+    // zones are refused.
+    fn step(&mut self, call: Call) -> Result<(), Refusal>
+        ensures { NextLive self.old (call_of call) result self.new }
     {
         self.checked()?;
-        let chart = next_chart(self.chart, call)?;
+        refusal_of(&self.chart, call)?;
+        let chart = next_chart(self.chart, call);
         let found = zones::detect_bigseg_zhongshus_by_overlap(&chart)?;
         let zones = found.rows;
-        Ok(Live {
-            chart,
-            zones,
-            zone_count: found.count,
-            count: self.count.saturating_add(1),
-        })
+        self.chart = chart;
+        self.zones = zones;
+        self.zone_count = found.count as u16;
+        self.count = self.count.saturating_add(1);
+        Ok(())
     }
 
-    // Any call. A refused one hands back the very chart.
+    // The number of the answer to a call that is made in place.
+    fn made(&mut self, call: Call) -> u8
+        ensures { Did self.old (call_of call) result self.new }
+    {
+        match self.step(call) {
+            Ok(()) => 0,
+            Err(refusal) => refusal.number(),
+        }
+    }
+
+    // Any call.
     pub fn call(mut self, call: Call) -> Answered
         ensures { Did self (call_of call) result.number result.chart }
     {
-        match self.next(call) {
-            Ok(chart) => Answered { chart, number: 0 },
-            Err(refusal) => Answered {
-                chart: self,
-                number: refusal.number(),
-            },
+        let number = self.made(call);
+        Answered {
+            chart: self,
+            number,
         }
     }
 
@@ -238,55 +266,87 @@ impl Live {
     pub fn add_stroke(mut self, s: Stroke) -> Answered
         ensures { Did self (add_stroke s) result.number result.chart }
     {
-        self.call(Call::Stroke(s))
+        let number = self.made(Call::Stroke(s));
+        Answered {
+            chart: self,
+            number,
+        }
     }
 
     // Adds a segment: 21, then 3, 2, 4, 5.
     pub fn add_segment(mut self, t: Triple) -> Answered
         ensures { Did self (add_segment t) result.number result.chart }
     {
-        self.call(Call::Segment(t))
+        let number = self.made(Call::Segment(t));
+        Answered {
+            chart: self,
+            number,
+        }
     }
 
     // Adds a big segment: 21, then 3, 2, 4, 5.
     pub fn add_big(mut self, t: Triple) -> Answered
         ensures { Did self (add_big t) result.number result.chart }
     {
-        self.call(Call::Big(t))
+        let number = self.made(Call::Big(t));
+        Answered {
+            chart: self,
+            number,
+        }
     }
 
     // Adds a superior: 21, then 3, 2, 4, 5.
     pub fn add_superior(mut self, t: Triple) -> Answered
         ensures { Did self (add_superior t) result.number result.chart }
     {
-        self.call(Call::Superior(t))
+        let number = self.made(Call::Superior(t));
+        Answered {
+            chart: self,
+            number,
+        }
     }
 
     // Sets the last superior's last: 21, then 7, 4, 5.
     pub fn lengthen(mut self, last: u16) -> Answered
         ensures { Did self (lengthen last) result.number result.chart }
     {
-        self.call(Call::Lengthen(last))
+        let number = self.made(Call::Lengthen(last));
+        Answered {
+            chart: self,
+            number,
+        }
     }
 
     // Drops the last record of a level, 0 strokes to 3 superiors: 21, then 2, 7, 6.
     pub fn withdraw(mut self, level: u8) -> Answered
         ensures { Did self (withdraw level) result.number result.chart }
     {
-        self.call(Call::Withdraw(level))
+        let number = self.made(Call::Withdraw(level));
+        Answered {
+            chart: self,
+            number,
+        }
     }
 
     // Appends the classes of the segments to the bigs, while there is none: 21, then 2, 6.
     pub fn derive_bigs(mut self, byte: u8) -> Answered
         ensures { Did self (derive_bigs byte) result.number result.chart }
     {
-        self.call(Call::DeriveBigs(byte))
+        let number = self.made(Call::DeriveBigs(byte));
+        Answered {
+            chart: self,
+            number,
+        }
     }
 
     // Appends the classes of the bigs to the superiors, while there is none: 21, then 2, 6.
     pub fn derive_superiors(mut self, byte: u8) -> Answered
         ensures { Did self (derive_superiors byte) result.number result.chart }
     {
-        self.call(Call::DeriveSuperiors(byte))
+        let number = self.made(Call::DeriveSuperiors(byte));
+        Answered {
+            chart: self,
+            number,
+        }
     }
 }

@@ -56,31 +56,34 @@ fn live_sum<F: Fn(Live, u32) -> Answered>(chart: &Chart, turns: u32, turn: F) ->
 
 // The sum of so many turns of the call of this name. Accepted: the last superior is withdrawn and added again in turns. Refused: a level that there
 // is not, with 2, behind 21.
-fn sum_of(name: &str, chart: &Chart, turns: u32) -> u16 {
+fn sum_of(name: [u8; 8], chart: &Chart, turns: u32) -> u16 {
     let last = chart.superiors().last().copied().unwrap_or(NO_TRIPLE);
-    match name {
-        "build" => build_sum(chart, turns),
-        "accepted" => live_sum(chart, turns, |b, i| {
+    match &name {
+        b"build\0\0\0" => build_sum(chart, turns),
+        b"accepted" => live_sum(chart, turns, |b, i| {
             if i % 2 == 0 {
                 b.withdraw(3)
             } else {
                 b.add_superior(last)
             }
         }),
-        "refused" => live_sum(chart, turns, |b, _| b.withdraw(4)),
+        b"refused\0" => live_sum(chart, turns, |b, _| b.withdraw(4)),
         _ => 0,
     }
 }
 
 fn main(rt: HostRuntime) -> io::Result<()> {
-    let mut file = [0; files::CHART_ROOM];
+    let mut file = files::chart_room();
     let n = files::read_file(&rt, b"chart.dat", &mut file);
-    let mut word = [0; 8];
-    let name = arguments::word(&rt, 1, &mut word).unwrap_or("");
-    let turns = arguments::number(&rt, 2);
+    let name = arguments::word(&rt, 1);
+    let turns = arguments::number(arguments::word(&rt, 2));
     let mut out = io::writer(&rt);
     match chart_read::read_chart(&file[..n]) {
-        Ok(loaded) => writeln!(out, "SUM {}", sum_of(name, &loaded.chart, turns)),
+        Ok(loaded) => {
+            let sum = sum_of(name, &loaded.chart, turns);
+            out.write_all(b"SUM")?;
+            writeln!(out, " {sum}")
+        }
         Err(refused) => writeln!(out, "{refused}"),
     }
 }

@@ -2,7 +2,7 @@
 
 #![tactic(auto)]
 
-ghost use Rattle.std.specs.Prelude.{◌≡◌, ◌≤◌, length, not, find, option_map};
+ghost use Rattle.std.specs.Prelude.{◌≡◌, ◌<◌, ◌≤◌, ℕ, Some, length, not, find, option_map};
 ghost use Rattle.std.specs.Bool.{beq};
 ghost use Rattle.tables.specs.declared.Superior.{Superior};
 ghost use mathlib.Core.List.{foldl, map};
@@ -32,13 +32,14 @@ fn other_last(superiors: &[Superior], buy: bool) -> Option<u16>
 
 // The bar at which the anchors' hits stop: the end bar of the big that the last of the first superior of the other direction names, if there
 // is one.
-pub fn anchor_limit(superiors: &[Superior], bigs: &[Big], buy: bool) -> Option<u16>
-    ensures { (c : Levels) → superiors.now ≡ superiors_of c → bigs.now ≡ bigs_of c → result ≡ bar_of (anchor_stop c buy) }
+pub fn anchor_limit(superiors: &[Superior], bigs: &[Big], buy: bool) -> Option<u32>
+    ensures limit { (c : Levels) → superiors.now ≡ superiors_of c → bigs.now ≡ bigs_of c → result ≡ bar_of (anchor_stop c buy) }
+    ensures is_bar { (bar : ℕ) → result ≡ Some bar → bar < 0x1_0000 }
 {
     let last = other_last(superiors, buy)?;
     let big = bigs.get(last as usize)?;
     let end = big.end?;
-    Some(end.bar)
+    Some(end.bar as u32)
 }
 
 // What the hits of an anchor are looked for by: its end bar, the place of the first big that ends behind that, its price C, the side, and the
@@ -49,7 +50,7 @@ struct AnchorHits {
     from: usize,
     price: f64,
     buy: bool,
-    limit: Option<u16>,
+    limit: Option<u32>,
 }
 
 // Puts the marks of an anchor's hits among the rows, numbered 0, 1, .. in index order of the bigs. An end that reaches the limit ends them, hit
@@ -75,7 +76,8 @@ fn hit_rows(
         if mark_scan::reached(hits.limit, end.bar) {
             return;
         }
-        let Some(price) = mark_hits::hit_at(quotes, hits.buy, hits.price, end.bar) else {
+        let bar = end.bar as usize;
+        let Some(price) = mark_hits::hit_at(quotes, hits.buy, hits.price, bar) else {
             continue;
         };
         let mark = NMark {
@@ -90,11 +92,11 @@ fn hit_rows(
     }
 }
 
-// Puts the marks of the anchors of a side among the rows.
+// Puts the marks of the anchors of a side among the rows. Where no big can be an anchor, no table of them is made.
 pub fn anchor_rows(
     bigs: &[Big],
     side: Side,
-    limit: Option<u16>,
+    limit: Option<u32>,
     quotes: &Quotes,
     marks: &mut Rows<NMark, 512>,
 )
@@ -103,6 +105,9 @@ pub fn anchor_rows(
     requires room { length (foldl push_3n (rows_in marks.old) (side_hits (quotes_of quotes.now) bigs.now side limit)) ≤ 512 }
     ensures { rows_in marks.new ≡ foldl push_3n (rows_in marks.old) (side_hits (quotes_of quotes.now) bigs.now side limit) }
 {
+    if side.anchors == 0 {
+        return;
+    }
     let anchors = mark_hits::anchors_of(bigs, side);
     let mut places = [0usize; 256];
     for anchor in anchors.listed() {

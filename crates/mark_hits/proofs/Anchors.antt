@@ -1,7 +1,8 @@
 -- The ends of bigs: the place of the first that ends behind a bar, and what follows it. Assumes nothing.
-use Rattle.std.proofs.Common.{ℕ, suc, zero, ◌+◌, ◌-◌, ◌<◌, ◌≤◌, ◌≡◌, refl, ap, ◌∙◌, arith, Bool, true, false, cond}
+use Rattle.std.proofs.Common.{ℕ, suc, zero, ◌+◌, ◌-◌, ◌<◌, ◌≤◌, ◌≡◌, refl, ap, arith, Bool, true, false, cond, ◌&&◌}
 use Rattle.std.proofs.Common.{List, [], ◌∷◌, ◌++◌, map, length, take, drop, get_or, Some, None, Float, add-one, length-drop}
 use Rattle.std.proofs.Math.Seq.{take-suc}
+use Rattle.std.proofs.lemmas.Bool.{false≢true}
 use Rattle.std.proofs.lemmas.List.{take_all, append-nil, length-map, length-take}
 use borrow.Author.Tests.{le-ltb, ltb-false}
 use Rattle.std.specs.Bool.{beq}
@@ -16,7 +17,7 @@ use Rattle.laws.proofs.Lists.{collect-length, map-append}
 use Rattle.tables.specs.declared.Big.{Big}
 use Rattle.mark_hits.specs.declared.Anchor.{Anchor}
 use Rattle.mark_hits.specs.declared.Side.{Side}
-use Rattle.mark_hits.specs.Anchors.{is_behind, point_behind, end_behind, ends_behind, place_behind, first_price, anchor_at, point_in, ends_in, anchors_in}
+use Rattle.mark_hits.specs.Anchors.{is_behind, is_along, point_behind, end_behind, ends_behind, place_behind, place_along, first_price, anchor_at, point_in, ends_in, anchors_in}
 
 -- ---- the first element that passes a test
 
@@ -63,6 +64,15 @@ module _ {A : Type 0} (p : A → Bool) where
       go true f r = absurd (omega (arith, rw (before, f) at h))
       go false f r = rw (before, f) (omega (arith, r (omega (arith, rw (before, f) at h))))
 
+-- a test that fewer pass has a later place
+before_fewer : {A : Type 0} (p q : A → Bool) → ((x : A) → p x ≡ false → q x ≡ false) → (xs : List A) → length (before p xs) ≤ length (before q xs)
+before_fewer p q f [] = omega arith
+before_fewer p q f (x ∷ xs) = go (p x) refl (before_fewer p q f xs)
+  where
+    go : (t : Bool) → p x ≡ t → length (before p xs) ≤ length (before q xs) → length (before p (x ∷ xs)) ≤ length (before q (x ∷ xs))
+    go true e r = rw (before, e) (omega arith)
+    go false e r = rw (before, e, f x e) (omega arith)
+
 -- ---- bigs that end behind a bar
 
 not_later : (last bar : ℕ) (o : code.Option.Option EndPoint) → last ≤ bar → is_behind last o ≡ false → is_behind bar o ≡ false
@@ -71,14 +81,55 @@ not_later last bar (Some s) h e = le-ltb bar s.bar (omega (arith, ltb-false last
 
 -- a later bar has a later place
 pub place_later : (last bar : ℕ) (bs : List Big) → last ≤ bar → place_behind last bs ≤ place_behind bar bs
-place_later last bar [] h = omega arith
-place_later last bar (b ∷ bs) h = go (is_behind last b.end) refl (place_later last bar bs h)
+place_later last bar bs h = before_fewer (λ (b : Big). is_behind last b.end) (λ (b : Big). is_behind bar b.end) (λ b e. not_later last bar b.end h e) bs
+
+pub along_later : (up : Bool) (last bar : ℕ) (bs : List Big) → last ≤ bar → place_along up last bs ≤ place_along up bar bs
+along_later up last bar bs h = before_fewer (is_along up last) (is_along up bar) (λ b e. go (beq (is_up b.direction) up) b e) bs
   where
-    go :
-        (t : Bool) → is_behind last b.end ≡ t → place_behind last bs ≤ place_behind bar bs
-        → place_behind last (b ∷ bs) ≤ place_behind bar (b ∷ bs)
-    go true e r = rw (before, e) (omega arith)
-    go false e r = rw (before, e, not_later last bar b.end h e) (omega arith)
+    go : (t : Bool) (b : Big) → (t && is_behind last b.end) ≡ false → (t && is_behind bar b.end) ≡ false
+    go true b e = not_later last bar b.end h e
+    go false b e = refl
+
+-- the first big of a direction that ends behind a bar stands nowhere before the first of all that do
+pub along_behind : (up : Bool) (bar : ℕ) (bs : List Big) → place_behind bar bs ≤ place_along up bar bs
+along_behind up bar bs = before_fewer (λ (b : Big). is_behind bar b.end) (is_along up bar) (λ b e. go (beq (is_up b.direction) up) b e) bs
+  where
+    go : (t : Bool) (b : Big) → is_behind bar b.end ≡ false → (t && is_behind bar b.end) ≡ false
+    go true b e = e
+    go false b e = refl
+
+-- ---- the first big that passes a test, looked for from a place on, none of which before it passes
+
+module _ (p : Big → Bool) (bs : List Big) (place i : ℕ) (passed : place ≤ length (before p bs)) (so_far : place + i ≤ length (before p bs)) where
+  abbrev rest : List Big
+  rest = take (length bs - place) (drop place bs)
+
+  all_rest : rest ≡ drop place bs
+  all_rest = take_all (length bs - place) (drop place bs) (omega (arith, length-drop place bs))
+
+  split : length (before p bs) ≡ place + length (before p rest)
+  split = rw all_rest (before_split p bs place passed)
+
+  pub first_here : (d : Big) → i < length rest → p (get_or rest i d) ≡ true → (place + i ≤ length bs) × (place + i ≡ length (before p bs))
+  first_here d h e =
+      let same = before_here p rest i d (omega (arith, split)) h e in
+      let whole : place + i ≡ length (before p bs) = omega (arith, split) in
+      (omega (arith, before_le p bs), whole)
+
+  pub first_later : (d : Big) → i < length rest → p (get_or rest i d) ≡ false → place + (i + 1) ≤ length (before p bs)
+  first_later d h e =
+      let more = before_more p rest i d (omega (arith, split)) h e in
+      omega (arith, split)
+
+  pub first_none : length rest ≤ i → length bs ≡ length (before p bs)
+  first_none h = omega (arith, before_le p bs, ap length all_rest, length-drop place bs)
+
+-- ---- what follows that place
+
+-- the price of an end point, if there is one
+abbrev pub price_of : code.Option.Option EndPoint → code.Option.Option Float
+price_of None = None
+price_of (Some e) = Some e.price
 
 module _ (bar : ℕ) where
   pub place_le : (bs : List Big) → place_behind bar bs ≤ length bs
@@ -103,30 +154,49 @@ module _ (bar : ℕ) where
       go true e r = rw (before, e)
       go false e r = rw (before, e, collect, no_end up b e) r
 
-  -- big i of those from a place on, none of which before it ends behind the bar
-  module _ (bs : List Big) (place i : ℕ) (passed : place ≤ place_behind bar bs) (so_far : place + i ≤ place_behind bar bs) where
-    abbrev rest : List Big
-    rest = take (length bs - place) (drop place bs)
+  module _ (up : Bool) where
+    not_along : (b : Big) → is_along up bar b ≡ false → end_behind up bar b ≡ none
+    not_along b e = go (beq (is_up b.direction) up) b.end e
+      where
+        go : (t : Bool) (o : code.Option.Option EndPoint) → (t && is_behind bar o) ≡ false → cond t (point_behind bar o) none ≡ none
+        go false o f = refl
+        go true None f = refl
+        go true (Some s) f = rw f
 
-    all_rest : rest ≡ drop place bs
-    all_rest = take_all (length bs - place) (drop place bs) (omega (arith, length-drop place bs))
+    along_price : (b : Big) → is_along up bar b ≡ true → (e : EndPoint) × (end_behind up bar b ≡ some e) × (price_of b.end ≡ Some e.price)
+    along_price b e = go (beq (is_up b.direction) up) b.end e
+      where
+        go :
+            (t : Bool) (o : code.Option.Option EndPoint) → (t && is_behind bar o) ≡ true
+            → (e : EndPoint) × (cond t (point_behind bar o) none ≡ some e) × (price_of o ≡ Some e.price)
+        go true (Some s) f = (s, rw f, refl)
+        go true None f = absurd (false≢true f)
+        go false o f = absurd (false≢true f)
 
-    split : place_behind bar bs ≡ place + place_behind bar rest
-    split = rw all_rest (before_split (λ (b : Big). is_behind bar b.end) bs place passed)
+    -- the price of the first end of a direction behind the bar is that of the big at that place
+    pub price_there :
+        (bs : List Big) (k : ℕ) (d : Big) → k ≡ place_along up bar bs → k < length bs → price_of (get_or bs k d).end ≡ first_price (ends_behind up bar bs)
+    price_there [] k d e h = absurd (omega arith)
+    price_there (b ∷ bs) k d e h = go (is_along up bar b) refl k e h (λ k. price_there bs k d)
+      where
+        go :
+            (t : Bool) → is_along up bar b ≡ t → (k : ℕ) → k ≡ place_along up bar (b ∷ bs) → k < length (b ∷ bs)
+            → ((k : ℕ) → k ≡ place_along up bar bs → k < length bs → price_of (get_or bs k d).end ≡ first_price (ends_behind up bar bs))
+            → price_of (get_or (b ∷ bs) k d).end ≡ first_price (ends_behind up bar (b ∷ bs))
+        go true f zero e h r = let (s, g, p) = along_price b f in rw (collect, g) p
+        go true f (suc k) e h r = absurd (omega (arith, rw (before, f) at e))
+        go false f zero e h r = absurd (omega (arith, rw (before, f) at e))
+        go false f (suc k) e h r = rw (collect, not_along b f) (r k (omega (arith, rw (before, f) at e)) (omega arith))
 
-    pub first_here : (d : Big) → i < length rest → is_behind bar (get_or rest i d).end ≡ true → (place + i ≤ length bs) × (place + i ≡ place_behind bar bs)
-    first_here d h e =
-        let same = before_here (λ (b : Big). is_behind bar b.end) rest i d (omega (arith, split)) h e in
-        let whole : place + i ≡ place_behind bar bs = omega (arith, split) in
-        (omega (arith, place_le bs), whole)
-
-    pub first_later : (d : Big) → i < length rest → is_behind bar (get_or rest i d).end ≡ false → place + (i + 1) ≤ place_behind bar bs
-    first_later d h e =
-        let more = before_more (λ (b : Big). is_behind bar b.end) rest i d (omega (arith, split)) h e in
-        omega (arith, split)
-
-    pub first_none : length rest ≤ i → length bs ≡ place_behind bar bs
-    first_none h = omega (arith, place_le bs, ap length all_rest, length-drop place bs)
+    pub price_nowhere : (bs : List Big) → length bs ≤ place_along up bar bs → first_price (ends_behind up bar bs) ≡ None
+    price_nowhere [] h = refl
+    price_nowhere (b ∷ bs) h = go (is_along up bar b) refl (price_nowhere bs)
+      where
+        go :
+            (t : Bool) → is_along up bar b ≡ t → (length bs ≤ place_along up bar bs → first_price (ends_behind up bar bs) ≡ None)
+            → first_price (ends_behind up bar (b ∷ bs)) ≡ None
+        go true f r = absurd (omega (arith, rw (before, f) at h))
+        go false f r = rw (collect, not_along b f) (r (omega (arith, rw (before, f) at h)))
 
 -- ---- anchors
 
@@ -157,17 +227,6 @@ ends_few f xs i = omega (arith, length-map (ends_in (take i xs)) f, collect-leng
 -- how many rows count, by what they are
 pub count_is : {A : Type 0} {N : ℕ} (r : Rows A N) (l : List A) → rows_in r ≡ l → r.count ≡ length l
 count_is r l e = omega (arith, ap length e, length-take r.count r.rows, r.inside, r.whole)
-
--- the anchor that ends at a point
-pub anchor_is :
-    (bs : List Big) (buy : Bool) (e : EndPoint) (from : ℕ) (price : code.Option.Option Float) → from ≡ place_behind e.bar bs
-    → price ≡ first_price (ends_behind buy e.bar (take (length bs - from) (drop from bs)))
-    → ◌≡◌ {A = Anchor} (record { bar = e.bar; from = from; price = price }) (anchor_at bs buy e)
-anchor_is bs buy e from price f g =
-    let rest : take (length bs - from) (drop from bs) ≡ drop from bs = take_all (length bs - from) (drop from bs) (omega (arith, length-drop from bs)) in
-    let left : ends_behind buy e.bar (drop from bs) ≡ ends_behind buy e.bar bs = rw f (ends_from e.bar buy bs) in
-    let same : price ≡ first_price (ends_behind buy e.bar bs) = g ∙ ap (λ (l : List Big). first_price (ends_behind buy e.bar l)) rest ∙ ap first_price left in
-    rw (same, f)
 
 -- the place of an anchor is one of the bigs, or behind them
 pub anchor_inside : (s : Side) (bigs : List Big) (i : ℕ) (d : Anchor) → i < length (anchors_in s bigs) → (get_or (anchors_in s bigs) i d).from ≤ length bigs

@@ -1,5 +1,5 @@
 -- The ends of bigs and the anchors, by the bigs and the superiors of a chart. Assumes nothing.
-use Rattle.std.specs.Prelude.{ℕ, Bool, true, false, cond, List, [], ◌∷◌, map, length, take, ltb, Float, Some, None}
+use Rattle.std.specs.Prelude.{ℕ, min, Bool, true, false, cond, ◌&&◌, List, [], ◌∷◌, map, length, take, ltb, Float, Some, None}
 use Rattle.std.specs.Bool.{beq}
 use Rattle.std.specs.declared.option as code
 use Rattle.std.proofs.Math.Option.{Option, none, some}
@@ -35,12 +35,19 @@ is_behind after (Some e) = ltb after e.bar
 abbrev pub place_behind : ℕ → List Big → ℕ
 place_behind after bs = length (before (λ (b : Big). is_behind after b.end) bs)
 
+-- the same for bigs of a direction
+abbrev pub is_along : Bool → ℕ → Big → Bool
+is_along up after b = beq (is_up b.direction) up && is_behind after b.end
+
+abbrev pub place_along : Bool → ℕ → List Big → ℕ
+place_along up after bs = length (before (is_along up after) bs)
+
 -- ---- anchors
 
--- How many of the first bigs are looked at for anchors, and whether the anchors' marks are buys: by the first superior
-abbrev pub side_by : List Superior → Side
-side_by [] = record { anchors = 0; buy = true }
-side_by (s ∷ ss) = record { anchors = s.first; buy = is_up s.direction }
+-- How many of the first bigs, of so many, are looked at for anchors, and whether the anchors' marks are buys: by the first superior
+abbrev pub side_by : List Superior → ℕ → Side
+side_by [] bigs = record { anchors = 0; buy = true }
+side_by (s ∷ ss) bigs = record { anchors = min s.first bigs; buy = is_up s.direction }
 
 -- the price of the first of some end points
 abbrev pub first_price : List EndPoint → code.Option.Option Float

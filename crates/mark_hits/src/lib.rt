@@ -3,7 +3,7 @@
 
 #![tactic(auto)]
 
-ghost use Rattle.std.specs.Prelude.{◌≡◌, ◌≤◌, false, cond, length};
+ghost use Rattle.std.specs.Prelude.{◌≡◌, ◌≤◌, ℕ, Bool, false, cond, length};
 ghost use Rattle.std.specs.Float.Ieee.{lt};
 ghost use Rattle.chart.specs.Table.{option_of};
 ghost use Rattle.chart.specs.Numbers.{number_in};
@@ -11,7 +11,7 @@ ghost use Rattle.rows.specs.Rows.{rows_in};
 ghost use Rattle.rules.specs.Marks.{side, quote};
 ghost use Rattle.rules.specs.Refusals.{bad_slices};
 ghost use Rattle.mark_hits.specs.Quotes.{quotes_of, quotes_refusal, hit_price};
-ghost use Rattle.mark_hits.specs.Anchors.{end_behind, is_behind, place_behind, side_by, anchors_in, ends_behind, first_price};
+ghost use Rattle.mark_hits.specs.Anchors.{end_behind, is_behind, place_behind, is_along, place_along, side_by, anchors_in, ends_behind, first_price};
 
 use chart::{EndPoint, Refusal};
 use rows::Rows;
@@ -35,10 +35,10 @@ fn prices_of<'a>(quotes: &Quotes<'a>, buy: bool) -> &'a [f64]
 
 // The lent price of a side at a bar, where the bar is inside the slice.
 #[tactic(auto, using(levels::proofs::Read::got), unfolding(rules::specs::Marks::quote))]
-pub fn quote_at(quotes: &Quotes, buy: bool, bar: u16) -> Option<f64>
+pub fn quote_at(quotes: &Quotes, buy: bool, bar: usize) -> Option<f64>
     ensures { option_of result ≡ quote (quotes_of quotes.now) buy bar }
 {
-    prices_of(quotes, buy).get(bar as usize).copied()
+    prices_of(quotes, buy).get(bar).copied()
 }
 
 // Whether the slices are of unequal length, or have more than 65,536 prices.
@@ -73,7 +73,7 @@ fn beyond(buy: bool, x: f64, p: f64) -> bool
 
 // The lent price at a bar, if that is a hit. A bar outside the slice is none.
 #[tactic(auto, using(crate::proofs::Hits::no_hit, crate::proofs::Hits::hit_here, crate::proofs::Hits::hit_missed))]
-pub fn hit_at(quotes: &Quotes, buy: bool, p: f64, bar: u16) -> Option<f64>
+pub fn hit_at(quotes: &Quotes, buy: bool, p: f64, bar: usize) -> Option<f64>
     ensures { option_of result ≡ hit_price (quotes_of quotes.now) buy p bar }
 {
     let x = quote_at(quotes, buy, bar)?;
@@ -118,6 +118,28 @@ fn first_behind(bigs: &[Big], place: usize, after: u16) -> usize
     bigs.len()
 }
 
+// Whether a big is of a direction and ends behind a bar.
+fn is_along(big: &Big, up: bool, after: u16) -> bool
+    ensures { result ≡ is_along up after big.now }
+{
+    (big.direction == 1) == up && is_behind(big, after)
+}
+
+// The place of the first big of a direction that ends behind a bar, looked for from `place` on.
+fn first_along(bigs: &[Big], up: bool, place: usize, after: u16) -> usize
+    requires in_bounds { place ≤ length bigs.now }
+    requires passed { place ≤ place_along up after bigs.now }
+    ensures in_bounds { result ≤ length bigs.now }
+    ensures first { result ≡ place_along up after bigs.now }
+{
+    for (i, big) in bigs[place..].iter().enumerate() {
+        if is_along(big, up, after) {
+            return place + i;
+        }
+    }
+    bigs.len()
+}
+
 // ---- anchors
 
 // The anchors' side: how many of the first bigs are looked at for anchors, and whether their marks are buys.
@@ -127,9 +149,10 @@ pub struct Side {
     pub buy: bool,
 }
 
-// By the first superior: the bigs before its first, and its direction.
-pub fn side_of(superiors: &[Superior]) -> Side
-    ensures { result ≡ side_by superiors.now }
+// By the first superior: the bigs before its first, of so many bigs, and its direction.
+pub fn side_of(superiors: &[Superior], bigs: usize) -> Side
+    ensures few { result.anchors ≤ bigs }
+    ensures side { result ≡ side_by superiors.now bigs }
 {
     let Some(first) = superiors.first() else {
         return Side {
@@ -138,7 +161,7 @@ pub fn side_of(superiors: &[Superior]) -> Side
         };
     };
     Side {
-        anchors: first.first as usize,
+        anchors: (first.first as usize).min(bigs),
         buy: first.direction == 1,
     }
 }
@@ -157,19 +180,17 @@ const NO_ANCHOR: Anchor = Anchor {
     price: None,
 };
 
-// The price C of an anchor that ends at a bar: the end price of the first of some bigs that is of the side's direction and ends behind.
-fn price_behind(bigs: &[Big], buy: bool, bar: u16) -> Option<f64>
-    ensures { result ≡ first_price (ends_behind buy bar bigs.now) }
+// The price C of an anchor: the end price of the first big of the side's direction that ends behind it, which stands at this place.
+fn price_at(bigs: &[Big], place: usize) -> Option<f64>
+    ensures { (buy : Bool) (bar : ℕ) → place ≡ place_along buy bar bigs.now → result ≡ first_price (ends_behind buy bar bigs.now) }
 {
-    for big in bigs {
-        if let Some(end) = end_behind(big, buy, bar) {
-            return Some(end.price);
-        }
-    }
-    None
+    let big = bigs.get(place)?;
+    let end = big.end?;
+    Some(end.price)
 }
 
-// The anchors of a side. Where the end bars rise, as they do in a live chart, the bigs are passed over once for all of them.
+// The anchors of a side. Where the end bars rise, as they do in a live chart, the bigs are passed over once for the places of all of them, and once
+// for their prices.
 pub fn anchors_of(bigs: &[Big], side: Side) -> Rows<Anchor, 256>
     requires { length bigs.now ≤ 256 }
     ensures { rows_in result ≡ anchors_in side bigs.now }
@@ -177,14 +198,17 @@ pub fn anchors_of(bigs: &[Big], side: Side) -> Rows<Anchor, 256>
     let mut anchors = Rows::new(NO_ANCHOR);
     let mut last = 0;
     let mut from = 0;
+    let mut along = 0;
     for big in &bigs[..side.anchors.min(bigs.len())] {
         let Some(end) = big.end else {
             continue;
         };
         let place = if end.bar < last { 0 } else { from };
         from = first_behind(bigs, place, end.bar);
+        let start = if end.bar < last { from } else { along };
+        along = first_along(bigs, side.buy, start, end.bar);
         last = end.bar;
-        let price = price_behind(&bigs[from..], side.buy, end.bar);
+        let price = price_at(bigs, along);
         anchors.push(Anchor {
             bar: end.bar,
             from,

@@ -1,10 +1,11 @@
 -- Rising bars, into which one more is put. Assumes nothing.
-use Rattle.std.proofs.Common.{◌≡◌, ℕ, zero, suc, ◌<◌, ◌≤◌, List, [], ◌∷◌, ◌++◌, length, get_or, take, drop, refl, sym, ap, arith}
+use Rattle.std.proofs.Common.{◌≡◌, ℕ, zero, suc, ◌+◌, ◌-◌, ◌<◌, ◌≤◌, List, [], ◌∷◌, ◌++◌, length, length-append, get_or, take, drop, refl, sym, ap, arith}
+use Rattle.std.proofs.Math.Seq.{get_or-append_seam}
 use borrow.Author.Tests.{lt-ltb, le-ltb, eq-eqb, ne_eqb}
 use Rattle.rules.specs.Marks.{insert_bar}
 use Rattle.laws.specs.Lists.{All, cons, Rising, then}
 
-all_here : {P : ℕ → Type 0} (xs : List ℕ) (k : ℕ) → All P xs → k < length xs → P (get_or xs k 0)
+pub all_here : {P : ℕ → Type 0} (xs : List ℕ) (k : ℕ) → All P xs → k < length xs → P (get_or xs k 0)
 all_here [] k a h = absurd (omega arith)
 all_here (x ∷ xs) zero (cons p a) h = p
 all_here (x ∷ xs) (suc k) (cons p a) h = all_here xs k a (omega arith)
@@ -43,3 +44,14 @@ insert-new (x ∷ xs) b (suc i) h low high =
     rw (le-ltb b x (omega arith), ne_eqb b x other)
     (ap (λ (l : List ℕ). x ∷ l)
     (insert-new xs b i (omega arith) (λ k l. low (suc k) (omega arith)) (λ k l n. high (suc k) (omega arith) (omega arith))))
+
+-- ---- the place behind a bar
+
+pub there-stands : (xs : List ℕ) (b i : ℕ) → get_or xs i 0 ≡ b → get_or xs (i + 1 - 1) 0 ≡ b
+there-stands xs b i e = let at : i + 1 - 1 ≡ i = omega arith in rw at e
+
+pub new-inside : (zs xs ys : List ℕ) (b i : ℕ) → length xs ≡ i → zs ≡ xs ++ b ∷ ys → i + 1 ≤ length zs
+new-inside zs xs ys b i e f = omega (arith, ap length f, length-append xs (b ∷ ys))
+
+pub new-stands : (xs ys : List ℕ) (b i : ℕ) → length xs ≡ i → get_or (xs ++ b ∷ ys) (i + 1 - 1) 0 ≡ b
+new-stands xs ys b i e = there-stands (xs ++ b ∷ ys) b i (rw (← e) (get_or-append_seam xs b ys 0))

@@ -2,12 +2,12 @@
 
 #![tactic(auto)]
 
-ghost use Rattle.std.specs.Prelude.{◌≡◌, ◌<◌, ◌≤◌, length, position};
+ghost use Rattle.std.specs.Prelude.{◌≡◌, ℕ, ◌-◌, ◌<◌, ◌≤◌, length, get_or, position};
 ghost use mathlib.Core.List.{foldl, map};
 ghost use Rattle.rows.specs.Rows.{rows_in};
 ghost use Rattle.mark_hits.specs.Quotes.{quotes_of};
 ghost use Rattle.rules.specs.Marks.{price_at, insert_bar, push_3n};
-ghost use Rattle.laws.specs.Lists.{Distinct, Rising};
+ghost use Rattle.laws.specs.Lists.{All, Distinct, Rising};
 ghost use Rattle.laws.specs.Keys.{mark_key};
 ghost use Rattle.mark_rows.specs.Numbered.{stands_at, has_zero, bar_marks};
 
@@ -29,11 +29,10 @@ fn place_of(marks: &[NMark], bar: u16, buy: bool) -> Option<usize>
 fn put_at<const N: usize>(marks: &mut Rows<NMark, N>, mark: NMark, place: Option<usize>) -> usize
     requires is_place { place ≡ position (stands_at mark.bar_index mark.is_buy) (rows_in marks.old) }
     requires room { length (push_3n (rows_in marks.old) mark) ≤ N }
-    requires few { N ≤ 65535 }
     ensures { rows_in marks.new ≡ push_3n (rows_in marks.old) mark }
 {
     let Some(place) = place else {
-        let last = marks.count as usize;
+        let last = marks.count;
         marks.push(mark);
         return last;
     };
@@ -46,7 +45,6 @@ fn put_at<const N: usize>(marks: &mut Rows<NMark, N>, mark: NMark, place: Option
 // Puts a mark among the rows.
 pub fn push_3n<const N: usize>(marks: &mut Rows<NMark, N>, mark: NMark)
     requires room { length (push_3n (rows_in marks.old) mark) ≤ N }
-    requires few { N ≤ 65535 }
     ensures { rows_in marks.new ≡ push_3n (rows_in marks.old) mark }
 {
     let place = place_of(marks.listed(), mark.bar_index, mark.is_buy);
@@ -68,57 +66,63 @@ fn place_near(marks: &[NMark], bar: u16, buy: bool, near: usize) -> Option<usize
 pub fn push_near<const N: usize>(marks: &mut Rows<NMark, N>, mark: NMark, near: usize) -> usize
     requires apart { Distinct (map mark_key (rows_in marks.old)) }
     requires room { length (push_3n (rows_in marks.old) mark) ≤ N }
-    requires few { N ≤ 65535 }
     ensures { rows_in marks.new ≡ push_3n (rows_in marks.old) mark }
 {
     let place = place_near(marks.listed(), mark.bar_index, mark.is_buy, near);
     put_at(marks, mark, place)
 }
 
-// Puts a bar into rising bars, in which each stands once.
-pub fn insert_bar<const N: usize>(bars: &mut Rows<u16, N>, bar: u16)
+// Puts a bar into rising bars, in which each stands once; the place behind it.
+pub fn insert_bar<const N: usize>(bars: &mut Rows<u32, N>, bar: u32) -> usize
     requires rising { Rising (rows_in bars.old) }
     requires room { bars.old.count < N }
-    requires few { bars.old.count < 65535 }
-    ensures { rows_in bars.new ≡ insert_bar (rows_in bars.old) bar }
+    ensures bars { rows_in bars.new ≡ insert_bar (rows_in bars.old) bar }
+    ensures inside { (0 < result) × (result ≤ bars.new.count) }
+    ensures place { get_or (rows_in bars.new) (result - 1) 0 ≡ bar }
 {
     match bars.listed().binary_search(&bar) {
-        Ok(_) => {}
-        Err(at) => bars.insert(at, bar),
+        Ok(at) => at + 1,
+        Err(at) => {
+            bars.insert(at, bar);
+            at + 1
+        }
     }
 }
 
 // Whether there is an order-0 mark of a side at a bar.
-fn zero_at(thirds: &[ThirdMark], buy: bool, bar: u16) -> bool
+fn zero_at(thirds: &[ThirdMark], buy: bool, bar: u32) -> bool
     ensures { result ≡ has_zero thirds.now buy bar }
 {
-    thirds.iter().any(|m| m.bar_index == bar && m.is_buy == buy)
+    thirds
+        .iter()
+        .any(|m| u32::from(m.bar_index) == bar && m.is_buy == buy)
 }
 
 // The place of the first bar that has an order-0 mark of a side.
-fn first_zero(bars: &[u16], thirds: &[ThirdMark], buy: bool) -> Option<usize>
+fn first_zero(bars: &[u32], thirds: &[ThirdMark], buy: bool) -> Option<usize>
     ensures { result ≡ position (has_zero thirds.now buy) bars.now }
 {
     bars.iter().position(|bar| zero_at(thirds, buy, *bar))
 }
 
 // The price of a mark: the lent low for buys, the lent high for sells.
-fn price_at(quotes: &Quotes, buy: bool, bar: u16) -> f64
+fn price_at(quotes: &Quotes, buy: bool, bar: u32) -> f64
     ensures { result ≡ price_at (quotes_of quotes.now) buy bar }
 {
-    mark_hits::quote_at(quotes, buy, bar).unwrap_or(f64::NAN)
+    mark_hits::quote_at(quotes, buy, bar as usize).unwrap_or(f64::NAN)
 }
 
 // Puts the numbered marks of a superior among the rows, by its scanned bars, which rise: those behind the first that has an order-0 mark of
 // the side get 1, 2, .., other order-0 marks taking no number.
 pub fn number_bars(
-    bars: &[u16],
+    bars: &[u32],
     buy: bool,
     thirds: &[ThirdMark],
     quotes: &Quotes,
     marks: &mut Rows<NMark, 512>,
 )
     requires few { length bars.now ≤ 0x1_0000 }
+    requires small { All (λ (b : ℕ). b < 0x1_0000) bars.now }
     requires room { length (foldl push_3n (rows_in marks.old) (bar_marks (quotes_of quotes.now) thirds.now buy bars.now)) ≤ 512 }
     ensures { rows_in marks.new
         ≡ foldl push_3n (rows_in marks.old) (bar_marks (quotes_of quotes.now) thirds.now buy bars.now) }
@@ -134,7 +138,7 @@ pub fn number_bars(
         }
         let price = price_at(quotes, buy, *bar);
         let mark = NMark {
-            bar_index: *bar,
+            bar_index: *bar as u16,
             is_buy: buy,
             order,
             price,

@@ -80,7 +80,7 @@ leave_later c e later (suc n) (suc k) (b ∷ bs) h f =
     simp unary_clauses (leave-one c e later n k b bs h (leave_later c e later n k bs h) f (range_of c b) refl)
 
 -- the same from place `first` on
-leave_from :
+pub leave_from :
     (c : Levels) (e later first last p : ℕ) → e ≤ later → first ≤ p
     → leaving c e (suc last - first) (drop first c.bigs) ≡ drop p c.bigs
     → leaving c later (suc last - first) (drop first c.bigs) ≡ leaving c later (suc last - p) (drop p c.bigs)

@@ -1,16 +1,16 @@
 -- What stops a scan: the zones and superiors that are left to look at, one more at a time. Assumes nothing.
-use Prim.Native.Nat.{ℕ, zero, suc, min, ◌+◌, ◌<◌, ◌≤◌}
+use Prim.Native.Nat.{ℕ, zero, suc, min, ◌+◌, ◌-◌, ◌<◌, ◌≤◌}
 use native.Mathlib.Omega.{arith}
 use native.Mathlib.Numerals.{add-one}
 use mathlib.Core.Path.{◌≡◌, refl, sym, ◌∙◌}
-use mathlib.Core.Bool.{Bool, true, false, not, ◌&&◌, ◌||◌, and-false, or_assoc, or_comm, or-false, or-true}
+use mathlib.Core.Bool.{Bool, true, false, cond, not, ◌&&◌, ◌||◌, and-false, or_assoc, or-false}
 use mathlib.Core.List.{List, [], ◌∷◌, map}
 use mathlib.Core.Option.{Option, none, some}
 use lib.ListN.{length, get_or, drop, length-drop, drop_of_length-le}
 use lib.Seq.{drop-cons}
 use Rattle.std.proofs.lemmas.List.{get_or-drop}
 use lib.Dec.{eqb, leb, ltb}
-use borrow.Author.Tests.{leb-true, leb-false, le-leb, lt-leb, le-ltb}
+use borrow.Author.Tests.{leb-true, leb-false, le-leb, lt-leb, ltb-true, le-ltb}
 use Rattle.std.specs.List.Sorted.{IsNonDecreasingBy}
 use Rattle.std.specs.Prelude.{Some, None, filter, filter_map}
 use Rattle.std.specs.Prelude as words
@@ -18,13 +18,14 @@ use Rattle.std.specs.declared.option as code
 use Rattle.chart.specs.declared.Stroke.{Stroke}
 use Rattle.chart.specs.declared.Triple.{Triple}
 use Rattle.chart.specs.declared.Zone.{Zone}
-use Rattle.rules.specs.Lists.{find, keep, collect}
+use Rattle.rules.specs.Lists.{find, keep, any, collect}
 use Rattle.rules.specs.Records.{Levels}
 use Rattle.rules.specs.Marks.{reaches_zone, reaches, superior_end}
 use Rattle.laws.proofs.Lists.{all_get_d, false-any}
 use Rattle.tables.specs.declared.Superior.{Superior}
 use Rattle.tables.specs.Tables.{superior_of}
-use Rattle.mark_scan.specs.Scan.{reached_at}
+use Rattle.mark_scan.specs.declared.Begin.{Begin}
+use Rattle.mark_scan.specs.Scan.{reached_at, begin_of, stops_at}
 
 -- ---- limits
 
@@ -36,6 +37,14 @@ leb-min a b bar = go (leb a bar) refl (leb b bar) refl
     go true f v g = le-leb (min a b) bar (omega (arith, leb-true a bar f))
     go false f true g = le-leb (min a b) bar (omega (arith, leb-true b bar g))
     go false f false g = lt-leb (min a b) bar (omega (arith, leb-false a bar f, leb-false b bar g))
+
+-- a limit that is a bar is reached by a bar where it is by the last of those that fit 16 bits
+capped : (a bar : ℕ) → a ≤ 65535 → leb a bar ≡ leb a (min bar 65535)
+capped a bar fits = go (leb a bar) refl
+  where
+    go : (u : Bool) → leb a bar ≡ u → leb a bar ≡ leb a (min bar 65535)
+    go true f = f ∙ sym (le-leb a (min bar 65535) (omega (arith, leb-true a bar f)))
+    go false f = f ∙ sym (lt-leb a (min bar 65535) (omega (arith, leb-false a bar f)))
 
 -- ---- zones
 
@@ -87,39 +96,84 @@ module _ (zs : List Zone) (z : Zone) where
             let before : ltb z.end_bar (get_or zs j d).start_bar ≡ false = le-ltb z.end_bar (get_or zs j d).start_bar (omega arith) in
             rw (← add-one j) (sym (pass bar j d (omega arith) (rw (before, and-false))) ∙ go j (omega arith))
 
-  -- the limit is that of the zones from place `from` on before place k, and of the turn
-  abbrev pub Nearest : code.Option.Option ℕ → ℕ → code.Option.Option ℕ → ℕ → Type 0
-  Nearest turn from limit k = (bar : ℕ) → (reached_at limit bar || later k bar) ≡ (later from bar || reached_at turn bar)
+  -- of the zones from place `from` on, only those from place k on are reached
+  abbrev pub Passed : ℕ → ℕ → Type 0
+  Passed from k = (bar : ℕ) → later from bar ≡ later k bar
 
-  module _ (turn : code.Option.Option ℕ) (from : ℕ) where
-    pub nearest-none : Nearest turn from turn from
-    nearest-none bar = or_comm (reached_at turn bar) (later from bar)
+  module _ (from k : ℕ) (so_far : Passed from k) where
+    pub first-none : length zs ≤ k → (bar : ℕ) → false ≡ later from bar
+    first-none over bar = sym (so_far bar ∙ none-later bar k over)
 
-    module _ (limit : code.Option.Option ℕ) (k : ℕ) (so_far : Nearest turn from limit k) where
-      pub nearest-all : length zs ≤ k → (bar : ℕ) → reached_at limit bar ≡ (later from bar || reached_at turn bar)
-      nearest-all over bar = rw (none-later bar k over, or-false (reached_at limit bar)) at (so_far bar)
+    module _ (d : Zone) (more : k < length zs) where
+      pub first-pass : is_next (get_or zs k d) ≡ false → Passed from (k + 1)
+      first-pass e bar = so_far bar ∙ pass bar k d more e
 
-      module _ (d : Zone) (more : k < length zs) where
-        pub nearest-pass : is_next (get_or zs k d) ≡ false → Nearest turn from limit (k + 1)
-        nearest-pass e bar = rw (pass bar k d more e) at (so_far bar)
+      -- where start bars never fall, no later zone is nearer
+      pub first-here :
+          is_next (get_or zs k d) ≡ true → IsNonDecreasingBy (λ (x : Zone). x.start_bar) zs
+          → (bar : ℕ) → leb (get_or zs k d).start_bar bar ≡ later from bar
+      first-here e rise bar = sym (so_far bar ∙ rw e at (one_more bar k d more) ∙ go (leb (get_or zs k d).start_bar bar) refl)
+        where
+          go :
+              (u : Bool) → leb (get_or zs k d).start_bar bar ≡ u
+              → (leb (get_or zs k d).start_bar bar || later (k + 1) bar) ≡ leb (get_or zs k d).start_bar bar
+          go true f = rw f
+          go false f = rw f (none-behind rise bar k d (leb-false (get_or zs k d).start_bar bar f))
 
-        module _
-            (e : is_next (get_or zs k d) ≡ true) (limit' : code.Option.Option ℕ)
-            (nearer : (b : ℕ) → reached_at limit' b ≡ (reached_at limit b || leb (get_or zs k d).start_bar b))
+  -- ---- begins
+
+  begins-are : (xs : List Zone) (bar : ℕ) → any (stops_at z.sup_idx z.end_bar bar) (map begin_of xs) ≡ reaches_zone xs z bar
+  unfolding reaches_zone
+  begins-are [] bar = refl
+  begins-are (x ∷ xs) bar = rw (← begins-are xs bar) refl
+
+  -- all zones, by their begins
+  pub begins-later :
+      (begins : List Begin) → begins ≡ map begin_of zs → (from bar : ℕ) → from ≡ 0 → any (stops_at z.sup_idx z.end_bar bar) begins ≡ later from bar
+  begins-later begins is from bar all = rw (is, all) (begins-are zs bar)
+
+module _ (ys : List Begin) (h e : ℕ) where
+  -- `least` bars behind e + 1, if that is a bar, or one of the zones from place i on, stop the scan
+  abbrev pub Least : ℕ → ℕ → Type 0
+  Least least i = (bar : ℕ) → any (stops_at h e bar) ys ≡ (leb (least + suc e) (min bar 65535) || any (stops_at h e bar) (drop i ys))
+
+  pub least-first : Least 65535 0
+  least-first bar = rw (lt-leb (65535 + suc e) (min bar 65535) (omega arith))
+
+  module _ (least i : ℕ) (so_far : Least least i) where
+    pub least-next :
+        (d : Begin) (more : ℕ) → i < length ys → (get_or ys i d).start < 65536
+        → more ≡ cond (not (eqb (get_or ys i d).superior h) && ltb e (get_or ys i d).start) ((get_or ys i d).start - e - 1) 65535
+        → Least (min least more) (i + 1)
+    least-next d more inside fits is bar =
+        let shifted : min least more + suc e ≡ min (least + suc e) (more + suc e) = omega arith in
+        rw (shifted, leb-min (least + suc e) (more + suc e) (min bar 65535), or_assoc)
+        (so_far bar ∙ rw (drop-cons ys i d inside, add-one i, one) refl)
+      where
+        one : stops_at h e bar (get_or ys i d) ≡ leb (more + suc e) (min bar 65535)
+        one = go (not (eqb (get_or ys i d).superior h)) refl (ltb e (get_or ys i d).start) refl
           where
-            pub nearest-next : Nearest turn from limit' (k + 1)
-            nearest-next bar = rw (nearer bar, or_assoc) (rw (one_more bar k d more, e) at (so_far bar))
+            go :
+                (t : Bool) → not (eqb (get_or ys i d).superior h) ≡ t → (u : Bool) → ltb e (get_or ys i d).start ≡ u
+                → (t && u && leb (get_or ys i d).start bar) ≡ leb (more + suc e) (min bar 65535)
+            go false f u g = let far : more ≡ 65535 = rw f at is in sym (lt-leb (more + suc e) (min bar 65535) (omega arith))
+            go true f false g = let far : more ≡ 65535 = rw (f, g) at is in sym (lt-leb (more + suc e) (min bar 65535) (omega arith))
+            go true f true g =
+                let near : more ≡ (get_or ys i d).start - e - 1 = rw (f, g) at is in
+                let behind = ltb-true e (get_or ys i d).start g in
+                let there : more + suc e ≡ (get_or ys i d).start = omega arith in
+                rw there (capped (get_or ys i d).start bar (omega arith))
 
-            -- where start bars never fall, no later zone is nearer
-            pub nearest-first :
-                IsNonDecreasingBy (λ (x : Zone). x.start_bar) zs → (bar : ℕ) → reached_at limit' bar ≡ (later from bar || reached_at turn bar)
-            nearest-first rise bar = go (leb (get_or zs k d).start_bar bar) refl (nearest-next bar)
-              where
-                go :
-                    (u : Bool) → leb (get_or zs k d).start_bar bar ≡ u → (reached_at limit' bar || later (k + 1) bar) ≡ (later from bar || reached_at turn bar)
-                    → reached_at limit' bar ≡ (later from bar || reached_at turn bar)
-                go true f g = let met : reached_at limit' bar ≡ true = nearer bar ∙ rw (f, or-true) refl in met ∙ (rw met at g)
-                go false f g = rw (none-behind rise bar k d (leb-false (get_or zs k d).start_bar bar f), or-false) at g
+    all : length ys ≤ i → (bar : ℕ) → any (stops_at h e bar) ys ≡ leb (least + suc e) (min bar 65535)
+    all over bar = so_far bar ∙ rw (drop_of_length-le ys {i = i} over) (or-false (leb (least + suc e) (min bar 65535)))
+
+    pub least-some : length ys ≤ i → least < 65535 - e → (bar : ℕ) → leb (least + e + 1) bar ≡ any (stops_at h e bar) ys
+    least-some over few bar =
+        let same : least + e + 1 ≡ least + suc e = omega arith in
+        rw same (capped (least + suc e) bar (omega arith) ∙ sym (all over bar))
+
+    pub least-none : length ys ≤ i → 65535 - e ≤ least → (bar : ℕ) → false ≡ any (stops_at h e bar) ys
+    least-none over far bar = sym (all over bar ∙ lt-leb (least + suc e) (min bar 65535) (omega arith))
 
 -- ---- superiors
 

@@ -1,5 +1,5 @@
 -- What a zone's scan and its steps stand for. Assumes nothing.
-use Rattle.std.specs.Prelude.{◌≡◌, Bool, false, List, [], ◌∷◌, ℕ, suc, ◌-◌, ◌<◌, drop, length, get_or, leb, Some, None}
+use Rattle.std.specs.Prelude.{◌≡◌, Bool, false, not, ◌&&◌, List, [], ◌∷◌, ℕ, suc, ◌-◌, ◌<◌, drop, length, get_or, eqb, leb, ltb, Some, None}
 use Rattle.std.specs.declared.option as code
 use Rattle.chart.specs.declared.Zone.{Zone}
 use Rattle.rules.specs.Records.{Levels}
@@ -8,6 +8,7 @@ use Rattle.rules.specs.Zones.{overlap_zones}
 use Rattle.tables.specs.declared.Big.{Big}
 use Rattle.tables.specs.declared.Superior.{Superior}
 use Rattle.tables.specs.Tables.{bigs_of, superiors_of}
+use Rattle.mark_scan.specs.declared.Begin.{Begin}
 use Rattle.mark_scan.specs.declared.Pair.{Pair}
 use Rattle.mark_scan.specs.declared.Scan.{Scan}
 use Rattle.mark_scan.specs.declared.Start.{Start}
@@ -28,6 +29,14 @@ Owned zs n = (i : ℕ) (d : Zone) → i < length zs → (get_or zs i d).sup_idx 
 abbrev pub reached_at : code.Option.Option ℕ → ℕ → Bool
 reached_at None bar = false
 reached_at (Some limit) bar = leb limit bar
+
+-- a zone's superior, and the bar where it starts
+abbrev pub begin_of : Zone → Begin
+begin_of z = record { superior = z.sup_idx; start = z.start_bar }
+
+-- whether a zone is of another superior than h, starts behind bar e, and is reached by a bar
+abbrev pub stops_at : ℕ → ℕ → ℕ → Begin → Bool
+stops_at h e bar y = not (eqb y.superior h) && ltb e y.start && leb y.start bar
 
 -- ---- pairs
 

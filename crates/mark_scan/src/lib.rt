@@ -2,15 +2,16 @@
 
 #![tactic(auto)]
 
-ghost use Rattle.std.specs.Prelude.{◌≡◌, ℕ, true, not, ◌&&◌, ◌||◌, ◌==◌, [], suc, ◌-◌, ◌<◌, ◌≤◌, length, drop, get_or, eqb, leb, ltb, filter, filter_map, find};
+ghost use Rattle.std.specs.Prelude.{◌≡◌, ℕ, true, false, not, cond, ◌&&◌, ◌||◌, ◌==◌, [], suc, ◌-◌, ◌<◌, ◌≤◌, length, drop, get_or, eqb, leb, ltb, filter, filter_map, find, map};
 ghost use Rattle.std.specs.List.Sorted.{IsNonDecreasingBy};
 ghost use Rattle.chart.specs.declared.Zone.{Zone};
 ghost use Rattle.rows.specs.Rows.{rows_in};
+ghost use Rattle.rules.specs.Lists.{any};
 ghost use Rattle.rules.specs.Records.{Levels};
 ghost use Rattle.rules.specs.Marks.{superior_of, leaving, reaches_zone};
 ghost use Rattle.tables.specs.declared.Superior.{Superior};
 ghost use Rattle.tables.specs.Tables.{bigs_of};
-ghost use Rattle.mark_scan.specs.Scan.{TablesOf, reached_at, pairs_from, pairs_by, Later, LeavesFrom, Started, ZoneScan, Scanned, Owned};
+ghost use Rattle.mark_scan.specs.Scan.{TablesOf, reached_at, begin_of, stops_at, pairs_from, pairs_by, Later, LeavesFrom, Started, ZoneScan, Scanned, Owned};
 
 use chart::{Range, Zone};
 use rows::Rows;
@@ -19,10 +20,10 @@ use tables::{Big, Superior};
 // The scan of a zone: its superior and that one's direction, the place of the big where it starts, and the bar that stops it, if one does.
 #[derive(Clone, Copy)]
 pub struct Scan {
-    pub superior: u16,
-    pub direction: u8,
+    pub superior: u32,
+    pub direction: u32,
     pub from: usize,
-    pub limit: Option<u16>,
+    pub limit: Option<u32>,
 }
 
 // What stands in a place that is not counted.
@@ -42,10 +43,11 @@ fn start_of(bigs: &[Big], begin: usize, last: u16, e: u16) -> usize
 {
     let end = last as usize + 1;
     for k in begin..end.min(bigs.len()) {
-        if let Range::Found(span) = bigs[k].range {
-            if e <= span.start_bar {
-                return k;
-            }
+        let Range::Found(span) = bigs[k].range else {
+            continue;
+        };
+        if e <= span.start_bar {
+            return k;
         }
     }
     begin.max(end)
@@ -75,10 +77,10 @@ fn search_from(first: usize, z: &Zone, before: Option<Start>) -> usize
 // ---- what stops it
 
 // Whether a bar reaches a limit.
-pub fn reached(limit: Option<u16>, bar: u16) -> bool
+pub fn reached(limit: Option<u32>, bar: u16) -> bool
     ensures { result ≡ reached_at limit bar }
 {
-    limit.is_some_and(|stop| stop <= bar)
+    limit.is_some_and(|stop| stop <= u32::from(bar))
 }
 
 // The first end bar behind e among the superiors from place `from` on that are not of direction d.
@@ -94,11 +96,14 @@ fn reversal(superiors: &[Superior], from: usize, d: u8, e: u16) -> Option<u16>
         .find(|bar| e < *bar)
 }
 
-// The nearer of a limit and a bar.
-fn nearer(limit: Option<u16>, bar: u16) -> Option<u16>
-    ensures { (b : ℕ) → reached_at result b ≡ (reached_at limit b || leb bar b) }
+// The nearer of two limits.
+fn nearer(limit: Option<u16>, next: Option<u16>) -> Option<u16>
+    ensures { (bar : ℕ) → reached_at result bar ≡ (reached_at limit bar || reached_at next bar) }
 {
-    Some(limit.map_or(bar, |stop| stop.min(bar)))
+    let Some(stop) = limit else {
+        return next;
+    };
+    Some(next.map_or(stop, |bar| bar.min(stop)))
 }
 
 // Whether zone y is of another superior than zone z and starts behind its end.
@@ -115,38 +120,124 @@ fn starts_rise(zones: &[Zone]) -> bool
     zones.is_sorted_by(|y, z| y.start_bar <= z.start_bar)
 }
 
-// The bar that stops zone z's scan: `turn`, the end bar of its reversal, or the least start bar among the zones from place `from` on that are
-// of another superior and start behind z's end. Where start bars never fall, the first such zone is the nearest.
-fn limit_of(zones: &[Zone], from: usize, rise: bool, z: &Zone, turn: Option<u16>) -> Option<u16>
-    requires { rise ≡ true → IsNonDecreasingBy (λ (y : Zone). y.start_bar) zones.now }
-    ensures { (bar : ℕ) → reached_at result bar ≡ (reaches_zone (drop from zones.now) z.now bar || reached_at turn bar) }
+// The start bar of the first zone from place `from` on that is of another superior than z and starts behind z's end. Where start bars never
+// fall, it is the nearest.
+fn first_next(zones: &[Zone], from: usize, z: &Zone) -> Option<u16>
+    requires { IsNonDecreasingBy (λ (y : Zone). y.start_bar) zones.now }
+    ensures { (bar : ℕ) → reached_at result bar ≡ reaches_zone (drop from zones.now) z.now bar }
 {
-    let mut limit = turn;
     for k in from..zones.len() {
-        if !is_next(&zones[k], z) {
-            continue;
-        }
-        limit = nearer(limit, zones[k].start_bar);
-        if rise {
-            return limit;
+        if is_next(&zones[k], z) {
+            return Some(zones[k].start_bar);
         }
     }
-    limit
+    None
+}
+
+// What the nearest zone is found by: a zone's superior, and the bar where it starts.
+#[derive(Clone, Copy)]
+struct Begin {
+    superior: u16,
+    start: u16,
+}
+
+const NO_BEGIN: Begin = Begin {
+    superior: 0,
+    start: 0,
+};
+
+// The begins of zones. They stand close together, since each zone looks at all, but where start bars never fall: there none is looked at.
+fn begins_of(zones: &[Zone], rise: bool) -> Rows<Begin, 256>
+    requires { length zones.now ≤ 256 }
+    ensures { rise ≡ false → rows_in result ≡ map begin_of zones.now }
+{
+    let mut begins = Rows::new(NO_BEGIN);
+    if rise {
+        return begins;
+    }
+    for z in zones {
+        begins.push(Begin {
+            superior: z.sup_idx,
+            start: z.start_bar,
+        });
+    }
+    begins
+}
+
+// How many bars a zone starts behind bar end + 1, where it is of another superior and starts behind `end`; elsewhere so many that they lead
+// behind all bars.
+fn bars_behind(y: Begin, superior: u16, end: u16) -> u16
+    ensures value { result ≡ cond (not (eqb y.superior superior) && ltb end y.start) (y.start - end - 1) 65535 }
+    ensures fits { y.start < 65536 }
+{
+    if y.superior != superior && end < y.start {
+        y.start - end - 1
+    } else {
+        65535
+    }
+}
+
+// The least start bar of a zone that is of another superior and starts behind `end`. Every zone is looked at, with no test that ends the
+// loop, so that several are taken at a time.
+fn nearest(begins: &[Begin], superior: u16, end: u16) -> Option<u16>
+    ensures { (bar : ℕ) → reached_at result bar ≡ any (stops_at superior end bar) begins.now }
+{
+    let mut least = 65535;
+    for y in begins {
+        least = least.min(bars_behind(*y, superior, end));
+    }
+    if least < 65535 - end {
+        Some(least + end + 1)
+    } else {
+        None
+    }
+}
+
+// The bar that stops zone z's scan: `turn`, the end bar of its reversal, or the least start bar among the zones from place `from` on that are
+// of another superior and start behind z's end.
+fn limit_of(
+    zones: &[Zone],
+    begins: &[Begin],
+    from: usize,
+    rise: bool,
+    z: &Zone,
+    turn: Option<u16>,
+) -> Option<u16>
+    requires rise { rise ≡ true → IsNonDecreasingBy (λ (y : Zone). y.start_bar) zones.now }
+    requires begins { rise ≡ false → begins.now ≡ map begin_of zones.now }
+    requires from { rise ≡ false → from ≡ 0 }
+    ensures { (bar : ℕ) → reached_at result bar ≡ (reaches_zone (drop from zones.now) z.now bar || reached_at turn bar) }
+{
+    let next = if rise {
+        first_next(zones, from, z)
+    } else {
+        nearest(begins, z.sup_idx, z.end_bar)
+    };
+    nearer(next, turn)
 }
 
 // ---- the scans of all zones
+
+// A limit, as a scan holds it.
+fn wide(limit: Option<u16>) -> Option<u32>
+    ensures { result ≡ limit }
+{
+    limit.map(u32::from)
+}
 
 // The scan of the zone at place i; `rise` where start bars never fall, and `before` is the start of the scan of the zone before.
 fn scan_of(
     bigs: &[Big],
     superiors: &[Superior],
     zones: &[Zone],
+    begins: &[Begin],
     i: usize,
     rise: bool,
     before: Option<Start>,
 ) -> Scan
     requires here { (i < length zones.now) × Owned zones.now (length superiors.now) }
     requires rise { rise ≡ true → IsNonDecreasingBy (λ (y : Zone). y.start_bar) zones.now }
+    requires begins { rise ≡ false → begins.now ≡ map begin_of zones.now }
     ensures { (c : Levels) (d : Zone) → TablesOf c bigs.now superiors.now zones.now → Started c before
         → ZoneScan c (get_or zones.now i d) result }
 {
@@ -160,11 +251,12 @@ fn scan_of(
     } else {
         0
     };
+    let limit = limit_of(zones, begins, next, rise, z, turn);
     Scan {
-        superior: z.sup_idx,
-        direction: h.direction,
+        superior: u32::from(z.sup_idx),
+        direction: u32::from(h.direction),
         from: start_of(bigs, begin, h.last, z.end_bar),
-        limit: limit_of(zones, next, rise, z, turn),
+        limit: wide(limit),
     }
 }
 
@@ -176,9 +268,10 @@ pub fn scans_of(bigs: &[Big], superiors: &[Superior], zones: &[Zone], scans: &mu
 {
     scans.count = 0;
     let rise = starts_rise(zones);
+    let begins = begins_of(zones, rise);
     let mut before = None;
     for (i, z) in zones.iter().enumerate() {
-        let scan = scan_of(bigs, superiors, zones, i, rise, before);
+        let scan = scan_of(bigs, superiors, zones, begins.listed(), i, rise, before);
         scans.push(scan);
         before = Some(Start {
             superior: z.sup_idx,
@@ -210,7 +303,7 @@ pub fn next_pair(bigs: &[Big], scan: &Scan, from: usize) -> Option<Pair>
         if reached(scan.limit, span.end_bar) {
             return None;
         }
-        if bigs[k].direction == scan.direction {
+        if u32::from(bigs[k].direction) == scan.direction {
             return Some(Pair {
                 next: k + 1,
                 bar: span.end_bar,

@@ -17,7 +17,7 @@ use Rattle.mark_scan.specs.declared.Scan.{Scan}
 use Rattle.mark_scan.specs.Scan.{pairs_from, ZoneScan, Scanned}
 use Rattle.mark_scan.proofs.Scans.{scanned-is, scan-at, scans-length}
 use Rattle.mark_superiors.specs.Superiors.{RisingAmong, Block}
-use Rattle.mark_superiors.proofs.ZoneBars.{among_none, among_more, pairs_end}
+use Rattle.mark_superiors.proofs.ZoneBars.{among_none}
 
 -- the element at place i, and those behind it
 front : (i : ℕ) (l : List Zone) (x : Zone) (xs : List Zone) → i < length l → drop i l ≡ x ∷ xs → (get_or l i x ≡ x) × (drop (i + 1) l ≡ xs)
@@ -87,10 +87,12 @@ module _ (c : Levels) (h : ℕ) (scans : List Scan) where
       zones-other other = done i (λ z rest later b. other ((its z (rest ++ later) b.stand).0.own ∙ all-at 0 z b.owned refl)) refl
 
       -- a zone of this one, whose bars are put in
-      pub zones-next : s.superior ≡ h → (bars' : List ℕ) → bars' ≡ foldl insert_bar bars (pairs_from c s s.from) → ZonesSoFar from bars' (i + 1)
-      zones-next mine bars' put =
+      pub zones-next :
+          s.superior ≡ h → (bars' : List ℕ) → (RisingAmong (end_bars c) bars → RisingAmong (end_bars c) bars')
+          → bars' ≡ foldl insert_bar bars (pairs_from c s s.from) → ZonesSoFar from bars' (i + 1)
+      zones-next mine bars' keeps put =
           record {
-            among = rw put (among_more (end_bars c) bars (pairs_from c s s.from) so_far.among (pairs_end c s s.from));
+            among = keeps so_far.among;
             left = λ own later b. let l = so_far.left own later b in go own later l.rest l.block l.put;
           }
         where

@@ -1,5 +1,5 @@
 -- The bars that the scan of one zone meets, put into rising bars. Assumes nothing.
-use Prim.Native.Nat.{ℕ, ◌≤◌}
+use Prim.Native.Nat.{ℕ, ◌<◌, ◌≤◌}
 use native.Mathlib.Omega.{arith}
 use mathlib.Core.Path.{◌≡◌, refl, subst}
 use mathlib.Core.List.{List, [], ◌∷◌, foldl, Memᴰ}
@@ -9,10 +9,10 @@ use Rattle.rules.specs.Lists.{collect}
 use Rattle.rules.specs.Records.{Levels}
 use Rattle.rules.specs.Ranges.{last_stroke}
 use Rattle.rules.specs.Marks.{insert_bar}
-use Rattle.laws.proofs.Lists.{All, nil, cons, none_left, all_drop, all_in, sorted-map, collect-length}
+use Rattle.laws.proofs.Lists.{All, nil, none_left, all_drop, all_in, sorted-map, collect-length}
 use Rattle.laws.proofs.Keys.{pigeonhole}
 use Rattle.laws.specs.Lists.{end_bars}
-use Rattle.laws.proofs.Room.{inserts-all, pairs-all, ends_there}
+use Rattle.laws.proofs.Room.{insert_all, pairs-all, ends_there}
 use Rattle.laws.proofs.Earlier.{inserts_rising}
 use Rattle.tables.specs.declared.Big.{Big}
 use Rattle.tables.specs.Tables.{big_of, bigs_of}
@@ -35,11 +35,16 @@ among_few c bigs bars t h a =
     )
 
 pub among_none : (ends : List ℕ) → RisingAmong ends []
-among_none ends = record { rising = none_left; there = nil }
+among_none ends = record { rising = none_left; small = nil; there = nil }
 
-pub among_more : (ends bars l : List ℕ) → RisingAmong ends bars → All (λ (b : ℕ). Memᴰ b ends) l → RisingAmong ends (foldl insert_bar bars l)
-among_more ends bars l a h =
-    record { rising = inserts_rising bars l a.rising; there = inserts-all (λ (b : ℕ). Memᴰ b ends) bars l a.there h }
+-- one bar more
+among-more : (ends bars : List ℕ) (b : ℕ) → RisingAmong ends bars → b < 0x1_0000 → Memᴰ b ends → RisingAmong ends (insert_bar bars b)
+among-more ends bars b a low h =
+    record {
+      rising = inserts_rising bars (b ∷ []) a.rising;
+      small = insert_all (λ (x : ℕ). x < 0x1_0000) bars b a.small low;
+      there = insert_all (λ (x : ℕ). Memᴰ x ends) bars b a.there h;
+    }
 
 -- the bars of a scan's pairs are such ends
 pub pairs_end : (c : Levels) (s : Scan) (k : ℕ) → All (λ (b : ℕ). Memᴰ b (end_bars c)) (pairs_from c s k)
@@ -58,10 +63,10 @@ module _ (c : Levels) (s : Scan) (old : List ℕ) where
 
   pub pairs-next :
       (bars : List ℕ) (at : ℕ) → PairsSoFar c s old bars at → (p : Pair) → pairs_from c s at ≡ p.bar ∷ pairs_from c s p.next
-      → (bars' : List ℕ) → bars' ≡ insert_bar bars p.bar → PairsSoFar c s old bars' p.next
-  pairs-next bars at so_far p here bars' put =
+      → p.bar < 0x1_0000 → (bars' : List ℕ) → bars' ≡ insert_bar bars p.bar → PairsSoFar c s old bars' p.next
+  pairs-next bars at so_far p here low bars' put =
       let there = all_in (subst (All (λ (b : ℕ). Memᴰ b (end_bars c))) here (pairs_end c s at)) (Memᴰ.head refl) in
       record {
-        among = λ a. rw put (among_more (end_bars c) bars (p.bar ∷ []) (so_far.among a) (cons there nil));
+        among = λ a. rw put (among-more (end_bars c) bars p.bar (so_far.among a) low there);
         left = rw put (rw here at so_far.left);
       }

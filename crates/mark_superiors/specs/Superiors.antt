@@ -17,9 +17,10 @@ pub record ScansOf (c : Levels) (bs : List Big) (ss : List Superior) (scans : Li
   pub superiors : ss ≡ superiors_of c
   pub scanned : Scanned c scans
 
--- rising bars among these ends
+-- rising bars among these ends, that a u16 holds
 pub record RisingAmong (ends bars : List ℕ) : Type 0 where
   pub rising : Rising bars
+  pub small : All (λ (b : ℕ). b < 0x1_0000) bars
   pub there : All (λ (b : ℕ). Memᴰ b ends) bars
 
 -- the zones from place `at` on are first superior h's own, and then those of later superiors

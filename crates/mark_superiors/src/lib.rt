@@ -3,7 +3,7 @@
 
 #![tactic(auto)]
 
-ghost use Rattle.std.specs.Prelude.{◌≡◌, List, [], ◌≤◌, ◌<◌, length, drop};
+ghost use Rattle.std.specs.Prelude.{◌≡◌, ℕ, List, [], ◌-◌, ◌≤◌, ◌<◌, length, drop, get_or};
 ghost use mathlib.Core.List.{foldl};
 ghost use Rattle.chart.specs.declared.Zone.{Zone};
 ghost use Rattle.rows.specs.Rows.{rows_in};
@@ -11,7 +11,7 @@ ghost use Rattle.rules.specs.Lists.{each};
 ghost use Rattle.rules.specs.Records.{Levels};
 ghost use Rattle.rules.specs.Zones.{overlap_zones};
 ghost use Rattle.rules.specs.Marks.{scanned, superiors_numbered, insert_bar, push_3n};
-ghost use Rattle.laws.specs.Lists.{Rising, end_bars};
+ghost use Rattle.laws.specs.Lists.{All, Rising, end_bars};
 ghost use Rattle.tables.specs.Tables.{bigs_of};
 ghost use Rattle.mark_scan.specs.Scan.{pairs_from, Scanned};
 ghost use Rattle.mark_hits.specs.Quotes.{quotes_of};
@@ -25,30 +25,32 @@ use tables::{Big, Superior};
 
 // Puts a bar into rising bars, in which each stands once; the place behind it. Most bars of a scan are there already, each behind the one
 // before it, so it is looked for at place `near` first.
-fn insert_near(bars: &mut Rows<u16, 257>, near: usize, bar: u16) -> usize
+fn insert_near(bars: &mut Rows<u32, 257>, near: usize, bar: u32) -> usize
     requires rising { Rising (rows_in bars.old) }
     requires room { bars.old.count < 257 }
-    ensures { rows_in bars.new ≡ insert_bar (rows_in bars.old) bar }
+    ensures bars { rows_in bars.new ≡ insert_bar (rows_in bars.old) bar }
+    ensures place { (0 < result) × (get_or (rows_in bars.new) (result - 1) 0 ≡ bar) }
 {
-    if near < bars.count as usize && bars.rows[near] == bar {
+    if near < bars.count && bars.rows[near] == bar {
         return near + 1;
     }
-    mark_rows::insert_bar(bars, bar);
-    bars.listed().partition_point(|b| *b <= bar)
+    mark_rows::insert_bar(bars, bar)
 }
 
 // The bars of a scan's pairs, put into rising bars.
-fn zone_bars(bigs: &[Big], scan: &Scan, bars: &mut Rows<u16, 257>)
+fn zone_bars(bigs: &[Big], scan: &Scan, bars: &mut Rows<u32, 257>)
     requires few { length bigs.now ≤ 256 }
     requires among { (c : Levels) × (bigs.now ≡ bigs_of c) × RisingAmong (end_bars c) (rows_in bars.old) }
-    ensures { (c : Levels) → bigs.now ≡ bigs_of c
+    ensures among { (c : Levels) → bigs.now ≡ bigs_of c
+        → RisingAmong (end_bars c) (rows_in bars.old) → RisingAmong (end_bars c) (rows_in bars.new) }
+    ensures bars { (c : Levels) → bigs.now ≡ bigs_of c
         → rows_in bars.new ≡ foldl insert_bar (rows_in bars.old) (pairs_from c scan.now scan.now.from) }
 {
     let mut at = scan.from;
     let mut near = 0;
     // a pair says where the search for the next begins
     while let Some(pair) = mark_scan::next_pair(bigs, scan, at) {
-        near = insert_near(bars, near, pair.bar);
+        near = insert_near(bars, near, u32::from(pair.bar));
         at = pair.next;
     }
 }
@@ -60,11 +62,12 @@ fn superior_bars(
     scans: &[Scan],
     h: usize,
     from: usize,
-    bars: &mut Rows<u16, 257>,
+    bars: &mut Rows<u32, 257>,
 ) -> usize
     requires few { length bigs.now ≤ 256 }
     requires of_levels { (c : Levels) × (bigs.now ≡ bigs_of c) × Scanned c scans.now }
-    ensures { (c : Levels) (own later : List Zone) → bigs.now ≡ bigs_of c → Scanned c scans.now → Block c h from own later
+    ensures small { All (λ (b : ℕ). b < 0x1_0000) (rows_in bars.new) }
+    ensures bars { (c : Levels) (own later : List Zone) → bigs.now ≡ bigs_of c → Scanned c scans.now → Block c h from own later
         → (rows_in bars.new ≡ foldl insert_bar [] (each (scanned c (overlap_zones c)) own)) × (drop result (overlap_zones c) ≡ later) }
 {
     bars.count = 0;

@@ -4,13 +4,12 @@
 
 ghost use Rattle.std.specs.Prelude.{◌≡◌, false, not, ◌++◌, ◌+◌, ◌≤◌, length};
 ghost use Rattle.chart.specs.declared.NMark.{NMark};
-ghost use Rattle.chart.specs.Numbers.{number_of};
 ghost use Rattle.price.specs.Price.{is_price, Price};
 ghost use Rattle.rows.specs.Rows.{rows_in};
 ghost use Rattle.rules.specs.Lists.{any};
 ghost use Rattle.rules.specs.Text.{mark_line, marks_text, refused_line};
 
-use chart::{NMark, RefusedAt};
+use chart::NMark;
 use text::{Text, put_decimal, put_hex, put_word};
 
 // A mark's line, which has at most 39 bytes.
@@ -49,14 +48,14 @@ pub fn marks_text(rows: &[NMark]) -> Text
 
 // The line of a refusal: its number, and the place of the record that is refused.
 #[tactic(auto, using(crate::proofs::Lines::digits_of_u8, crate::proofs::Lines::digits_of_u64))]
-pub fn refused_line(refused: RefusedAt) -> Text
-    ensures { rows_in result ≡ refused_line (number_of refused.refusal) refused.place }
+pub fn refused_line(number: u8, place: usize) -> Text
+    ensures { rows_in result ≡ refused_line number place }
 {
     let mut text = Text::new(0);
     put_word(&mut text, b"refused ");
-    put_decimal(&mut text, u64::from(refused.refusal.number()));
+    put_decimal(&mut text, u64::from(number));
     put_word(&mut text, b" at ");
-    put_decimal(&mut text, refused.place as u64);
+    put_decimal(&mut text, place as u64);
     put_word(&mut text, b"\n");
     text
 }

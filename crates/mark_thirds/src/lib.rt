@@ -28,7 +28,7 @@ use tables::{Big, Superior};
 fn mark_at(quotes: &Quotes, buy: bool, ground: Ground, p: f64, bar: u16) -> Option<ThirdMark>
     ensures { listed result ≡ first_mark (quotes_of quotes.now) buy ground p (bar ∷ []) }
 {
-    let price = mark_hits::hit_at(quotes, buy, p, bar)?;
+    let price = mark_hits::hit_at(quotes, buy, p, bar as usize)?;
     Some(ThirdMark {
         bar_index: bar,
         is_buy: buy,
@@ -126,12 +126,15 @@ fn zone_marks(
     }
 }
 
-// The marks of the anchors of a side, behind those that are there.
+// The marks of the anchors of a side, behind those that are there. Where no big can be one, no table of anchors is made.
 fn anchor_marks(bigs: &[Big], side: Side, quotes: &Quotes, marks: &mut Rows<ThirdMark, 512>)
     requires { (length bigs.now ≤ 256) × (marks.old.count ≤ 256) }
     ensures { rows_in marks.new
         ≡ foldl add_third (rows_in marks.old) (each (anchor_mark bigs.now (quotes_of quotes.now) side.buy) (anchors_in side bigs.now)) }
 {
+    if side.anchors == 0 {
+        return;
+    }
     let anchors = mark_hits::anchors_of(bigs, side);
     for anchor in anchors.listed() {
         if let Some(mark) = anchor_mark(bigs, quotes, side.buy, anchor) {
@@ -155,5 +158,6 @@ pub fn thirds_of(
 {
     marks.count = 0;
     zone_marks(bigs, zones, scans, quotes, marks);
-    anchor_marks(bigs, mark_hits::side_of(superiors), quotes, marks);
+    let side = mark_hits::side_of(superiors, bigs.len());
+    anchor_marks(bigs, side, quotes, marks);
 }

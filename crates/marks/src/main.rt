@@ -8,10 +8,10 @@ use std::io;
 use std::io::Write;
 
 fn main(rt: HostRuntime) -> io::Result<()> {
-    let mut chart = [0; files::CHART_ROOM];
+    let mut chart = files::chart_room();
     let n = files::read_file(&rt, b"chart.dat", &mut chart);
     let chart = &chart[..n];
-    let mut bars = [0; files::BARS_ROOM];
+    let mut bars = files::bars_room();
     // `bars.dat` is read unless the chart is refused
     let m = if marks_file::chart_refused(chart) {
         0

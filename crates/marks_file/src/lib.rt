@@ -60,6 +60,6 @@ pub fn marks_of_files(chart: &[u8], bars: &[u8]) -> Text
 {
     match marks_in(chart, bars) {
         Ok(marks) => mark_text::marks_text(marks.listed()),
-        Err(refused) => mark_text::refused_line(refused),
+        Err(refused) => mark_text::refused_line(refused.refusal.number(), refused.place),
     }
 }

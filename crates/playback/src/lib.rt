@@ -13,7 +13,7 @@ use live::Live;
 use rows::Rows;
 
 // What a replay leaves: an answer for each call, the chart behind them, and the bars of the log.
-#[derive(Drop)]
+#[derive(Clone, Copy)]
 pub struct Replayed {
     pub answers: Rows<u8, 32768>,
     pub highs: Rows<f64, 2048>,
@@ -34,7 +34,7 @@ fn run(log: &[u8]) -> Replayed
     let mut at = 0usize;
     // Entries are of different lengths: each says where the next one begins.
     while at < log.len() {
-        let Some(n) = call_log::next_entry(log, at, highs.count as usize) else {
+        let Some(n) = call_log::next_entry(log, at, highs.count) else {
             unreachable!();
         };
         at = n.next;

@@ -167,9 +167,9 @@ impl Row for Extent {
 }
 
 // A line for each row, behind a word: none in `report`, what the line is in `replay`.
-pub fn print_rows<W: Write, T: Row>(out: &mut W, word: &str, rows: &[T]) -> io::Result<()> {
+pub fn print_rows<W: Write, T: Row>(out: &mut W, word: &[u8], rows: &[T]) -> io::Result<()> {
     for row in rows {
-        out.write_all(word.as_bytes())?;
+        out.write_all(word)?;
         row.print(out)?;
     }
     Ok(())
@@ -184,7 +184,7 @@ pub fn print_section<W: Write, D: fmt::Display + Drop, T: Row + Copy, const N: u
     match found {
         Ok(rows) => {
             writeln!(out, "{head} {}", rows.count)?;
-            print_rows(out, "", rows.listed())
+            print_rows(out, b"", rows.listed())
         }
         Err(refusal) => writeln!(out, "{head} refused {refusal}"),
     }

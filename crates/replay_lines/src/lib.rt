@@ -13,23 +13,26 @@ use std::io::Write;
 // The count of accepted calls, the records of each level, and the zones.
 fn print_live<W: Write>(out: &mut W, b: &Live) -> io::Result<()> {
     writeln!(out, "count {}", b.count)?;
-    print_rows(out, "stroke ", b.chart.strokes())?;
-    print_rows(out, "segment ", b.chart.segments())?;
-    print_rows(out, "big ", b.chart.bigs())?;
-    print_rows(out, "superior ", b.chart.superiors())?;
+    print_rows(out, b"stroke ", b.chart.strokes())?;
+    print_rows(out, b"segment ", b.chart.segments())?;
+    print_rows(out, b"big ", b.chart.bigs())?;
+    print_rows(out, b"superior ", b.chart.superiors())?;
     let zones = (b.zone_count as usize).min(256);
-    print_rows(out, "zone ", &b.zones[..zones])
+    print_rows(out, b"zone ", &b.zones[..zones])
 }
 
 // The marks of a call behind its word, or its refusal.
 fn print_marks<W: Write, T: Row + Copy, const N: usize>(
     out: &mut W,
-    word: &str,
+    word: &[u8],
     found: Result<Rows<T, N>, Refusal>,
 ) -> io::Result<()> {
     match found {
         Ok(marks) => print_rows(out, word, marks.listed()),
-        Err(refusal) => writeln!(out, "{word}refused {refusal}"),
+        Err(refusal) => {
+            out.write_all(word)?;
+            writeln!(out, "refused {refusal}")
+        }
     }
 }
 
@@ -46,6 +49,6 @@ pub fn print_replay<W: Write>(out: &mut W, log: &[u8]) -> io::Result<()> {
     if all.run.highs.count == 0 {
         return Ok(());
     }
-    print_marks(out, "third ", all.thirds)?;
-    print_marks(out, "threen ", all.marks)
+    print_marks(out, b"third ", all.thirds)?;
+    print_marks(out, b"threen ", all.marks)
 }

@@ -7,9 +7,9 @@ use std::io;
 use std::io::{BufWriter, Write};
 
 fn main(rt: HostRuntime) -> io::Result<()> {
-    let mut chart = [0; files::CHART_ROOM];
+    let mut chart = files::chart_room();
     let n = files::read_argument(&rt, 1, b"chart.dat", &mut chart);
-    let mut bars = [0; files::BARS_ROOM];
+    let mut bars = files::bars_room();
     let m = files::read_argument(&rt, 2, b"bars.dat", &mut bars);
     let mut out = BufWriter::new(rt.alloc(), io::writer(&rt))?;
     sections::print_report(&mut out, &chart[..n], &bars[..m])?;

@@ -2,16 +2,30 @@
 
 #![tactic(auto)]
 
-ghost use Rattle.std.specs.Prelude.{◌≡◌, ◌≤◌, ◌<◌, ◌+◌, ◌++◌, ◌∷◌, [], ℕ, length, take, drop};
+ghost use Rattle.std.specs.Prelude.{◌≡◌, ◌≤◌, ◌<◌, ◌+◌, ◌++◌, ◌∷◌, [], ℕ, length, take, drop, ⊤};
 
-// Up to N rows, fewer than 65,536; what lies behind the count is not part of them.
-#[derive(Drop)]
+use std::alloc::AllocError;
+
+// Up to N rows; what lies behind the count is not part of them.
 pub struct Rows<T, const N: usize> {
     pub rows: [T; N],
-    pub count: u16,
+    pub count: usize,
     ghost inside: { count ≤ N },
     ghost whole: { length rows ≡ N },
 }
+
+// A derive leaves out what has a ghost field, so this is written: rows of what can be copied can be copied.
+impl<T: Copy, const N: usize> Clone for Rows<T, N> {
+    ghost is_clone = { λ s r. r ≡ s };
+
+    ghost is_infallible = { λ _. ⊤ };
+
+    fn clone(&self) -> Result<Rows<T, N>, AllocError> {
+        Ok(*self)
+    }
+}
+
+impl<T: Copy, const N: usize> Copy for Rows<T, N> {}
 
 impl<T: Copy, const N: usize> Rows<T, N> {
     // No rows, with this in every place.
@@ -28,16 +42,15 @@ impl<T: Copy, const N: usize> Rows<T, N> {
     pub fn listed(&self) -> &[T]
         ensures { result.now ≡ take self.now.count self.now.rows }
     {
-        &self.rows[..self.count as usize]
+        &self.rows[..self.count]
     }
 
     // One row more, behind the others.
     pub fn push(&mut self, row: T)
         requires room { self.old.count < N }
-        requires few { self.old.count < 65535 }
         ensures { take self.new.count self.new.rows ≡ take self.old.count self.old.rows ++ row ∷ [] }
     {
-        self.rows[self.count as usize] = row;
+        self.rows[self.count] = row;
         self.count += 1;
     }
 
@@ -45,12 +58,10 @@ impl<T: Copy, const N: usize> Rows<T, N> {
     pub fn insert(&mut self, at: usize, row: T)
         requires at_in_bounds { at ≤ self.old.count }
         requires room { self.old.count < N }
-        requires few { self.old.count < 65535 }
         ensures { take self.new.count self.new.rows
             ≡ take at self.old.rows ++ row ∷ drop at (take self.old.count self.old.rows) }
     {
-        let count = self.count as usize;
-        self.rows.copy_within(at..count, at + 1);
+        self.rows.copy_within(at..self.count, at + 1);
         self.rows[at] = row;
         self.count += 1;
     }

@@ -10,7 +10,7 @@ use playback::Replayed;
 use rows::Rows;
 
 // A replay, and the answers of both calls for marks behind it.
-#[derive(Drop)]
+#[derive(Clone, Copy)]
 pub struct Sequel {
     pub run: Replayed,
     pub thirds: Result<Rows<ThirdMark, 512>, Refusal>,

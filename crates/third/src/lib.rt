@@ -6,10 +6,10 @@ ghost use Rattle.std.specs.Prelude.{◌≡◌};
 ghost use Rattle.rules.specs.Answer.{rows_answer};
 ghost use Rattle.rules.specs.Calls.{third_call};
 
-use chart::{Chart, Ground, Refusal, ThirdMark};
+use chart::{Chart, Ground, NO_ZONE, Refusal, ThirdMark};
 use mark_hits::Quotes;
 use rows::Rows;
-use zones::Tables;
+use tables::{NO_BIG, NO_SUPERIOR};
 
 // What stands in a row that is not counted.
 const NO_MARK: ThirdMark = ThirdMark {
@@ -28,11 +28,19 @@ pub fn bigseg_third_marks_all_zhongshu(
     ensures { rows_answer result ≡ third_call chart.now (record { highs = highs.now; lows = lows.now }) }
 {
     let quotes = Quotes { highs, lows };
-    let mut tables = Tables::new();
-    zones::tables_of(chart, mark_hits::quotes_refusal(&quotes), &mut tables)?;
-    let bigs = tables.bigs.listed();
-    let superiors = tables.superiors.listed();
-    let zones = tables.zones.listed();
+    let mut bigs = Rows::new(NO_BIG);
+    let mut superiors = Rows::new(NO_SUPERIOR);
+    let mut zones = Rows::new(NO_ZONE);
+    zones::fill_tables(
+        chart,
+        mark_hits::quotes_refusal(&quotes),
+        &mut bigs,
+        &mut superiors,
+        &mut zones,
+    )?;
+    let bigs = bigs.listed();
+    let superiors = superiors.listed();
+    let zones = zones.listed();
     let mut scans = Rows::new(mark_scan::NO_SCAN);
     mark_scan::scans_of(bigs, superiors, zones, &mut scans);
     let mut marks = Rows::new(NO_MARK);

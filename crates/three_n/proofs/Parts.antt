@@ -1,5 +1,5 @@
 -- The rows of the 3+N marks from their parts: the third marks, the marks of the superiors and those of the anchors. Assumes nothing.
-use Rattle.std.proofs.Common.{◌≡◌, ◌≤◌, ℕ, List, [], length, map, sym, ap, ◌∙◌, arith}
+use Rattle.std.proofs.Common.{◌≡◌, ◌≤◌, ℕ, List, [], length, map, refl, sym, ap, ◌∙◌, arith}
 use Rattle.std.specs.declared.option as code
 use mathlib.Core.List.{foldl}
 use Rattle.chart.specs.declared.NMark.{NMark}
@@ -18,6 +18,7 @@ use Rattle.tables.specs.declared.Superior.{Superior}
 use Rattle.tables.specs.Tables.{big_of, bigs_of, superiors_of, bar_of}
 use Rattle.mark_hits.specs.declared.Side.{Side}
 use Rattle.mark_hits.specs.Anchors.{side_by}
+use Rattle.mark_hits.proofs.Ruled.{own_side}
 use Rattle.mark_rows.proofs.Pushed.{pushes_fit, pushes_append}
 use Rattle.mark_anchors.specs.Anchored.{side_hits}
 use Rattle.mark_anchors.proofs.Ruled.{hits-are}
@@ -71,11 +72,11 @@ module _ (c : Levels) (q : Quotes) where
         module _
             (bigs : List Big) (superiors : List Superior) (side : Side) (limit : code.Option.Option ℕ) (b : bigs ≡ bigs_of c)
             (s : superiors ≡ superiors_of c)
-            (by : side ≡ side_by superiors) (stop : limit ≡ bar_of (anchor_stop c side.buy))
+            (by : side ≡ side_by superiors (length bigs)) (stop : limit ≡ bar_of (anchor_stop c side.buy))
           where
             hits : side_hits q bigs side limit ≡ anchor_marks
             hits =
-                let own : side ≡ side_by (superiors_of c) = by ∙ ap side_by s in
+                let own : side ≡ own_side c = by ∙ rw (s, b) refl in
                 rw (b, stop, own) (hits-are c q)
 
             pub rows-all : foldl push_3n rows (side_hits q bigs side limit) ≡ n_marks c q

@@ -16,11 +16,10 @@ ghost use Rattle.rules.specs.Calls.{n_call};
 ghost use Rattle.mark_scan.specs.Scan.{TablesOf};
 ghost use Rattle.mark_hits.specs.Quotes.{quotes_of, quotes_refusal};
 
-use chart::{Chart, Ground, NMark, Refusal, Stroke, ThirdMark, Zone};
+use chart::{Chart, Ground, NMark, NO_ZONE, Refusal, Stroke, ThirdMark, Zone};
 use mark_hits::Quotes;
 use rows::Rows;
-use tables::{Big, Superior};
-use zones::Tables;
+use tables::{Big, NO_BIG, NO_SUPERIOR, Superior};
 
 // What stands in a place that is not counted.
 const NO_MARK: NMark = NMark {
@@ -73,15 +72,14 @@ fn order_zero(mark: &ThirdMark) -> NMark
 }
 
 // The rows of the third marks.
-fn zero_rows(thirds: &[ThirdMark]) -> Rows<NMark, 512>
+fn zero_rows(thirds: &[ThirdMark], marks: &mut Rows<NMark, 512>)
     requires { length thirds.now ≤ 512 }
-    ensures { rows_in result ≡ map order_zero thirds.now }
+    ensures { rows_in marks.new ≡ map order_zero thirds.now }
 {
-    let mut marks = Rows::new(NO_MARK);
+    marks.count = 0;
     for mark in thirds {
         marks.push(order_zero(mark));
     }
-    marks
 }
 
 // The rows of the marks of some levels, by their bigs, superiors and zones: those of the third marks, of order 0, then those of the
@@ -91,28 +89,28 @@ fn rows_of(
     superiors: &[Superior],
     zones: &[Zone],
     quotes: &Quotes,
-) -> Rows<NMark, 512>
+    marks: &mut Rows<NMark, 512>,
+)
     requires few { (length bigs.now ≤ 256) × (length zones.now ≤ 256) }
     requires of_levels { (c : Levels) × TablesOf c bigs.now superiors.now zones.now }
-    ensures { (c : Levels) → TablesOf c bigs.now superiors.now zones.now → rows_in result ≡ n_marks c (quotes_of quotes.now) }
+    ensures { (c : Levels) → TablesOf c bigs.now superiors.now zones.now → rows_in marks.new ≡ n_marks c (quotes_of quotes.now) }
 {
     let mut scans = Rows::new(mark_scan::NO_SCAN);
     mark_scan::scans_of(bigs, superiors, zones, &mut scans);
     let mut thirds = Rows::new(NO_THIRD);
     mark_thirds::thirds_of(bigs, superiors, zones, scans.listed(), quotes, &mut thirds);
-    let mut marks = zero_rows(thirds.listed());
+    zero_rows(thirds.listed(), marks);
     mark_superiors::superior_rows(
         bigs,
         superiors,
         scans.listed(),
         thirds.listed(),
         quotes,
-        &mut marks,
+        marks,
     );
-    let side = mark_hits::side_of(superiors);
+    let side = mark_hits::side_of(superiors, bigs.len());
     let limit = mark_anchors::anchor_limit(superiors, bigs, side.buy);
-    mark_anchors::anchor_rows(bigs, side, limit, quotes, &mut marks);
-    marks
+    mark_anchors::anchor_rows(bigs, side, limit, quotes, marks);
 }
 
 // ---- the call
@@ -126,13 +124,23 @@ pub fn bigseg_3n_marks_all_zhongshu(
     ensures { rows_answer result ≡ n_call chart.now (record { highs = highs.now; lows = lows.now }) }
 {
     let quotes = Quotes { highs, lows };
-    let mut tables = Tables::new();
-    zones::tables_of(chart, own_refusal(chart, &quotes), &mut tables)?;
-    let marks = rows_of(
-        tables.bigs.listed(),
-        tables.superiors.listed(),
-        tables.zones.listed(),
+    let mut bigs = Rows::new(NO_BIG);
+    let mut superiors = Rows::new(NO_SUPERIOR);
+    let mut zones = Rows::new(NO_ZONE);
+    zones::fill_tables(
+        chart,
+        own_refusal(chart, &quotes),
+        &mut bigs,
+        &mut superiors,
+        &mut zones,
+    )?;
+    let mut marks = Rows::new(NO_MARK);
+    rows_of(
+        bigs.listed(),
+        superiors.listed(),
+        zones.listed(),
         &quotes,
+        &mut marks,
     );
     Ok(marks)
 }

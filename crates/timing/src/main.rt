@@ -29,14 +29,14 @@ fn value_of<T: Copy, const N: usize, F: Fn(&T) -> u16>(
     };
     let listed = rows.listed();
     match listed.get(listed.len() / 2) {
-        Some(row) => rows.count.wrapping_add(bar(row)),
+        Some(row) => ((rows.count % 65536) as u16).wrapping_add(bar(row)),
         None => 0,
     }
 }
 
-// The sum of so many turns, modulo 65,536. Before each the start price of a stroke is changed, so that no turn is taken out of the loop. The first
-// turn stands before the loop: what is called at two places stays a function.
-fn sum_of<F: Fn(&Chart) -> u16>(start: Chart, turns: u32, turn: F) -> u16
+// The sum of so many turns, each of which is handed the chart by value, modulo 65,536. Before each the start price of a stroke is changed, so that no
+// turn is taken out of the loop. The first turn stands before the loop: what is called at two places stays a function.
+fn sum_of<F: Fn(Chart) -> u16>(start: Chart, turns: u32, turn: F) -> u16
     requires { F.IsAlwaysCallable turn }
 {
     if turns == 0 {
@@ -44,31 +44,31 @@ fn sum_of<F: Fn(&Chart) -> u16>(start: Chart, turns: u32, turn: F) -> u16
     }
     let mut chart = start;
     chart.strokes[place(0)].start_price += 0.25;
-    let mut sum = turn(&chart);
+    let mut sum = turn(chart);
     for i in 1..turns {
         chart.strokes[place(i)].start_price += 0.25;
-        sum = sum.wrapping_add(turn(&chart));
+        sum = sum.wrapping_add(turn(chart));
     }
     sum
 }
 
 // That of the turns of the call of this name.
-fn sum_by_name(name: &str, chart: Chart, highs: &[f64], lows: &[f64], turns: u32) -> u16 {
-    match name {
-        "zones" => sum_of(chart, turns, |c| {
-            value_of(&zones::detect_bigseg_zhongshus_by_overlap(c), |z| {
+fn sum_by_name(name: [u8; 8], chart: Chart, highs: &[f64], lows: &[f64], turns: u32) -> u16 {
+    match &name {
+        b"zones\0\0\0" => sum_of(chart, turns, |c| {
+            value_of(&zones::detect_bigseg_zhongshus_by_overlap(&c), |z| {
                 z.start_bar
             })
         }),
-        "third" => sum_of(chart, turns, |c| {
+        b"third\0\0\0" => sum_of(chart, turns, |c| {
             value_of(
-                &third::bigseg_third_marks_all_zhongshu(c, highs, lows),
+                &third::bigseg_third_marks_all_zhongshu(&c, highs, lows),
                 |m| m.bar_index,
             )
         }),
-        "threen" => sum_of(chart, turns, |c| {
+        b"threen\0\0" => sum_of(chart, turns, |c| {
             value_of(
-                &three_n::bigseg_3n_marks_all_zhongshu(c, highs, lows),
+                &three_n::bigseg_3n_marks_all_zhongshu(&c, highs, lows),
                 |m| m.bar_index,
             )
         }),
@@ -77,7 +77,7 @@ fn sum_by_name(name: &str, chart: Chart, highs: &[f64], lows: &[f64], turns: u32
 }
 
 // The sum of the turns on a chart file and a bars file.
-fn sum_of_files(chart: &[u8], bars: &[u8], name: &str, turns: u32) -> Result<u16, RefusedAt> {
+fn sum_of_files(chart: &[u8], bars: &[u8], name: [u8; 8], turns: u32) -> Result<u16, RefusedAt> {
     let loaded = chart_read::read_chart(chart)?;
     let mut highs = [0.0; 2048];
     let mut lows = [0.0; 2048];
@@ -86,16 +86,18 @@ fn sum_of_files(chart: &[u8], bars: &[u8], name: &str, turns: u32) -> Result<u16
 }
 
 fn main(rt: HostRuntime) -> io::Result<()> {
-    let mut chart = [0; files::CHART_ROOM];
+    let mut chart = files::chart_room();
     let n = files::read_file(&rt, b"chart.dat", &mut chart);
-    let mut bars = [0; files::BARS_ROOM];
+    let mut bars = files::bars_room();
     let m = files::read_file(&rt, b"bars.dat", &mut bars);
-    let mut word = [0; 8];
-    let name = arguments::word(&rt, 1, &mut word).unwrap_or("");
-    let turns = arguments::number(&rt, 2);
+    let name = arguments::word(&rt, 1);
+    let turns = arguments::number(arguments::word(&rt, 2));
     let mut out = io::writer(&rt);
     match sum_of_files(&chart[..n], &bars[..m], name, turns) {
-        Ok(sum) => writeln!(out, "SUM {sum}"),
+        Ok(sum) => {
+            out.write_all(b"SUM")?;
+            writeln!(out, " {sum}")
+        }
         Err(refused) => writeln!(out, "{refused}"),
     }
 }

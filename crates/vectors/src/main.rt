@@ -124,6 +124,13 @@ fn number_of<T: Copy>(answer: Result<T, Refusal>) -> u8 {
     }
 }
 
+// A buffer that holds 255 before it is written.
+fn all_ones() -> [u8; 65536]
+    ensures { 65536 ≡ length result }
+{
+    [255; 65536]
+}
+
 // The charts of two files, written into buffers of the two sizes.
 fn compare<W: Write>(out: &mut W, case: &[u8]) -> io::Result<()> {
     let Some((first, second, one, two)) = split_compared(case) else {
@@ -133,8 +140,8 @@ fn compare<W: Write>(out: &mut W, case: &[u8]) -> io::Result<()> {
         out,
         &chart_in(one),
         &chart_in(two),
-        cut(&mut [255; 65536], first),
-        cut(&mut [255; 65536], second),
+        cut(&mut all_ones(), first),
+        cut(&mut all_ones(), second),
     )
 }
 
@@ -151,7 +158,9 @@ fn print_read<W: Write>(
         Ok(bars) => (0, 0, bars),
         Err(refused) => (refused.refusal.number(), refused.place, 0),
     };
-    writeln!(out, "NUMBER {number}\nPLACE {place}\nBARS {bars}")?;
+    writeln!(out, "NUMBER {number}")?;
+    writeln!(out, "PLACE {place}")?;
+    writeln!(out, "BARS {bars}")?;
     for (high, low) in highs.iter().zip(lows.iter()).take(bars.saturating_add(1)) {
         writeln!(out, "{} {}", Hex(*high), Hex(*low))?;
     }
@@ -304,7 +313,7 @@ fn room() -> [u8; 2097152]
 
 fn main(rt: HostRuntime) -> io::Result<()> {
     let mut input = room();
-    let (Ok(n) | Err(n)) = files::read_full(&mut rt.reader(), &mut input);
+    let n = files::read_full(&mut rt.reader(), &mut input);
     let mut out = BufWriter::new(rt.alloc(), io::writer(&rt))?;
     print_cases(&mut out, &input[..n])?;
     out.flush()

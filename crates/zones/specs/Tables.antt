@@ -1,10 +1,13 @@
 -- What a call on a chart begins with: the number that refuses it, or the tables of the chart. Assumes nothing.
-use Rattle.std.specs.Prelude.{ℕ, ◌≡◌, cond, eqb}
+use Rattle.std.specs.Prelude.{ℕ, ◌≡◌, List, cond, eqb}
 use Rattle.chart.specs.declared.Chart.{Chart}
+use Rattle.chart.specs.declared.Zone.{Zone}
 use Rattle.rows.specs.Rows.{rows_in}
 use Rattle.rules.specs.Records.{Levels, levels_of}
 use Rattle.rules.specs.Zones.{overlap_zones}
 use Rattle.rules.specs.Refusals.{bad_chart, zones_refusal}
+use Rattle.tables.specs.declared.Big.{Big}
+use Rattle.tables.specs.declared.Superior.{Superior}
 use Rattle.tables.specs.Tables.{bigs_of, superiors_of}
 use Rattle.zones.specs.declared.Tables.{Tables}
 
@@ -12,8 +15,12 @@ use Rattle.zones.specs.declared.Tables.{Tables}
 unfoldable pub call_number : Chart → ℕ → ℕ
 call_number c own = cond (bad_chart c) 21 (cond (eqb own 0) (zones_refusal (levels_of c)) own)
 
--- the tables hold the bigs, the superiors and the overlap zones of these levels
-pub record Tabled (c : Levels) (t : Tables) : Type 0 where
-  pub bigs : rows_in t.bigs ≡ bigs_of c
-  pub superiors : rows_in t.superiors ≡ superiors_of c
-  pub zones : rows_in t.zones ≡ overlap_zones c
+-- these are the bigs, the superiors and the overlap zones of these levels
+pub record Filled (c : Levels) (bs : List Big) (ss : List Superior) (zs : List Zone) : Type 0 where
+  pub bigs : bs ≡ bigs_of c
+  pub superiors : ss ≡ superiors_of c
+  pub zones : zs ≡ overlap_zones c
+
+-- the tables hold them
+abbrev pub Tabled : Levels → Tables → Type 0
+Tabled c t = Filled c (rows_in t.bigs) (rows_in t.superiors) (rows_in t.zones)

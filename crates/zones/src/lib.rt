@@ -11,7 +11,7 @@ ghost use Rattle.rules.specs.Records.{levels_of};
 ghost use Rattle.rules.specs.Zones.{low_bar_of, begin, joins, join};
 ghost use Rattle.rules.specs.Calls.{zones_call};
 ghost use Rattle.zones.specs.Overlap.{span_of, opposing_in, members_in, zones_in, capped, Takes, Overlaps};
-ghost use Rattle.zones.specs.Tables.{call_number, Tabled};
+ghost use Rattle.zones.specs.Tables.{call_number, Filled, Tabled};
 
 use chart::{Chart, NO_ZONE, Range, Refusal, Span, Triple, Zone};
 use rows::Rows;
@@ -133,9 +133,13 @@ fn take_member(run: Option<Zone>, h: u16, index: u16, span: Span) -> Taken
 fn opposing(member: &Big, direction: u8) -> Option<Span>
     ensures { option_of result ≡ span_of direction member.now }
 {
-    match member.range {
-        Range::Found(span) if member.direction != direction => Some(span),
-        _ => None,
+    let Range::Found(span) = member.range else {
+        return None;
+    };
+    if member.direction != direction {
+        Some(span)
+    } else {
+        None
     }
 }
 
@@ -200,7 +204,7 @@ pub fn overlap(
 // ---- what a call on a chart begins with
 
 // The bigs, the superiors and the overlap zones of a chart.
-#[derive(Drop)]
+#[derive(Clone, Copy)]
 pub struct Tables {
     pub bigs: Rows<Big, 256>,
     pub superiors: Rows<Superior, 256>,
@@ -220,7 +224,25 @@ impl Tables {
     }
 }
 
-// 21, then the call's own refusal, then 11; and the tables of the chart.
+// 21, then the call's own refusal, then 11; and the tables of the chart, each lent by itself: a call that keeps them in a whole Tables fills and
+// copies all of it once more.
+pub fn fill_tables(
+    chart: &Chart,
+    own: Result<(), Refusal>,
+    bigs: &mut Rows<Big, 256>,
+    superiors: &mut Rows<Superior, 256>,
+    zones: &mut Rows<Zone, 256>,
+) -> Result<(), Refusal>
+    ensures number { number_in result ≡ call_number chart.now (number_in own) }
+    ensures tables { OnOk result (Filled (levels_of chart.now) (rows_in bigs.new) (rows_in superiors.new) (rows_in zones.new)) }
+{
+    tables::bigs_of(chart, bigs)?;
+    own?;
+    tables::superiors_of(chart, superiors);
+    overlap(chart.superiors(), bigs.listed(), zones)
+}
+
+// The same with the three tables in one place.
 pub fn tables_of(
     chart: &Chart,
     own: Result<(), Refusal>,
@@ -229,10 +251,28 @@ pub fn tables_of(
     ensures number { number_in result ≡ call_number chart.now (number_in own) }
     ensures tables { OnOk result (Tabled (levels_of chart.now) tables.new) }
 {
-    tables::bigs_of(chart, &mut tables.bigs)?;
-    own?;
-    tables::superiors_of(chart, &mut tables.superiors);
-    overlap(chart.superiors(), tables.bigs.listed(), &mut tables.zones)
+    fill_tables(
+        chart,
+        own,
+        &mut tables.bigs,
+        &mut tables.superiors,
+        &mut tables.zones,
+    )
+}
+
+// The same by a call's own number, which may be any: the number that refuses the call, and 0 where the tables are those of the chart.
+#[tactic(auto, unfolding(crate::specs::Tables::call_number))]
+pub fn tables_by_number(chart: &Chart, own: u8, tables: &mut Tables) -> u8
+    ensures number { result ≡ call_number chart.now own }
+    ensures tables { result ≡ 0 → Tabled (levels_of chart.now) tables.new }
+{
+    if own != 0 {
+        return if levels::bad_chart(chart) { 21 } else { own };
+    }
+    match tables_of(chart, Ok(()), tables) {
+        Ok(()) => 0,
+        Err(refusal) => refusal.number(),
+    }
 }
 
 // ---- the zone call

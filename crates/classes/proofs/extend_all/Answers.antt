@@ -9,7 +9,7 @@ push-requires c =
     let few = c.loop-c.invariant.few in
     let whole = c.loop-c.all.whole in
     let long = length-take c.loop-c.all.count c.loop-c.all.rows in
-    (lit< tt, (omega arith, omega arith))
+    (lit< tt, omega arith)
 
 pub loop-c-preserved : goal.loop-c-preserved
 loop-c-preserved c =

@@ -23,7 +23,7 @@ push-requires g c =
     let few = c.loop-t.invariant.few in
     let whole = c.loop-t.items.whole in
     let long = length-take c.loop-t.items.count c.loop-t.items.rows in
-    (lit< tt, (omega arith, omega arith))
+    (lit< tt, omega arith)
 
 pub loop-t-preserved : goal.loop-t-preserved
 loop-t-preserved g c =

@@ -30,7 +30,7 @@ push-requires c =
     let few = c.loop-i.invariant.few in
     let whole = c.loop-i.classes.whole in
     let long = length-take c.loop-i.classes.count c.loop-i.classes.rows in
-    (lit< tt, (omega arith, omega arith))
+    (lit< tt, omega arith)
 
 pub loop-i-preserved : goal.loop-i-preserved
 loop-i-preserved c =

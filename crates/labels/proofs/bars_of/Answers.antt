@@ -18,7 +18,7 @@ push-requires c =
     let few = c.loop-big.invariant.few in
     let whole = c.loop-big.all.whole in
     let long = length-take c.loop-big.all.count c.loop-big.all.rows in
-    (lit< tt, (omega arith, omega arith))
+    (lit< tt, omega arith)
 
 pub loop-big-preserved : goal.loop-big-preserved
 loop-big-preserved c =

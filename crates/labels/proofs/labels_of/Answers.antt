@@ -14,7 +14,7 @@ push-requires c =
     let few = c.loop-zone.invariant.few in
     let whole = c.loop-zone.labels.whole in
     let long = length-take c.loop-zone.labels.count c.loop-zone.labels.rows in
-    (lit< tt, (omega arith, omega arith))
+    (lit< tt, omega arith)
 
 pub overflow_add-named : goal.overflow_add-named
 overflow_add-named c =

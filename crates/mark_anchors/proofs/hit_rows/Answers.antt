@@ -11,7 +11,7 @@ push_near-requires c =
     let room =
     hit-room _ _ _ _ _ _ _ _ c.loop-i-test.true c.loop-i.invariant c.in-Some.end c.in-Some.ensures (sym c.reached.ensures ∙ c.if-reached.false) _
     c.in-Some-hit_at.ensures _ c.requires.room in
-    (omega arith, (c.loop-i.invariant.apart, (room, omega arith)))
+    (omega arith, (c.loop-i.invariant.apart, room))
 
 pub loop-i-preserved : goal.loop-i-preserved
 loop-i-preserved c =

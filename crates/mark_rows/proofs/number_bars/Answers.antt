@@ -1,5 +1,7 @@
-use Rattle.std.proofs.Common.{length-take, length-drop, ℕ, sym, ◌∙◌, arith}
+use Rattle.std.proofs.Common.{length-take, length-drop, ◌+◌, ℕ, sym, ◌∙◌, arith}
 use Rattle.rules.specs.Marks.{mark_at}
+use Rattle.laws.proofs.Lists.{all_take, all_drop}
+use Rattle.mark_rows.proofs.Bars.{all_here}
 use Rattle.mark_rows.proofs.Numbered.{no_marks, marks-behind, number-zero, number-next, room-left, numbered-all}
 use Rattle.mark_rows.proofs.number_bars.Goals as goal
 
@@ -13,11 +15,16 @@ pub loop-bar-preserved-then-zero_at : goal.loop-bar-preserved-then-zero_at
 loop-bar-preserved-then-zero_at c =
     number-zero _ _ _ _ _ _ _ _ c.loop-bar-test.true c.loop-bar.invariant (sym c.zero_at.ensures ∙ c.if-zero_at.true)
 
+pub overflow_cast-mark : goal.overflow_cast-mark
+overflow_cast-mark c =
+    let low = all_here _ c.loop-bar.bar-index (all_take _ (all_drop (c.in-Some.first + 1) c.requires.small)) c.loop-bar-test.true in
+    omega arith
+
 pub push_3n-requires : goal.push_3n-requires
 unfolding mark_at
 push_3n-requires c =
     let room = room-left _ _ _ _ _ _ _ _ c.loop-bar-test.true c.loop-bar.invariant (sym c.zero_at.ensures ∙ c.if-zero_at.false) _ c.requires.room in
-    (omega arith, (rw c.price_at-price.ensures room, omega arith))
+    (omega arith, rw c.price_at-price.ensures room)
 
 pub overflow_add-order : goal.overflow_add-order
 overflow_add-order c = omega (arith, length-take {A = ℕ}, length-drop {A = ℕ})

@@ -6,7 +6,7 @@ pub push-requires : goal.push-requires
 push-requires g c =
     let n : c.args.marks.now.count < g.row.N =
     absent-room c.args.mark _ _ (omega arith) _ (sym c.requires.is_place ∙ c.in_default.is) c.requires.room in
-    (omega arith, (n, omega arith))
+    omega arith
 
 pub returns-in_default : goal.returns-in_default
 returns-in_default g c = c.push.ensures ∙ sym (absent c.args.mark _ _ (omega arith) (sym c.requires.is_place ∙ c.in_default.is))

@@ -1,25 +1,22 @@
--- `mark_scan::limit_of` meets its contract. The invariant: the limit so far is that of the zones before place k. Assumes nothing.
-use mathlib.Core.Path.{sym, ◌∙◌}
-use Rattle.mark_scan.proofs.Stops.{nearest-none, nearest-all, nearest-pass, nearest-next, nearest-first}
+-- `mark_scan::limit_of` meets its contract. Assumes nothing.
+use mathlib.Core.Path.{◌≡◌, ◌∙◌}
+use Rattle.mark_scan.specs.Scan.{reached_at}
+use Rattle.mark_scan.proofs.Stops.{later, begins-later}
+use Rattle.mark_scan.proofs.limit_of.Goals.{then-rise, else-rise}
 use Rattle.mark_scan.proofs.limit_of.Goals as goal
 
-pub loop-k-init : goal.loop-k-init
-loop-k-init c = nearest-none c.args.zones.now c.args.z.now c.args.turn c.args.from
-
-pub loop-k-preserved-then-not-is_next : goal.loop-k-preserved-then-not-is_next
-loop-k-preserved-then-not-is_next c =
-    nearest-pass c.args.zones.now c.args.z.now c.args.turn c.args.from _ c.loop-k.k c.loop-k.invariant _ c.loop-k-test.true
-    (sym c.is_next.ensures ∙ c.if-not-is_next.true)
-
-pub returns-then-rise : goal.returns-then-rise
-returns-then-rise c =
-    nearest-first c.args.zones.now c.args.z.now c.args.turn c.args.from _ c.loop-k.k c.loop-k.invariant _ c.loop-k-test.true
-    (sym c.is_next.ensures ∙ c.if-not-is_next.false) _ c.nearer-limit.ensures (c.requires c.if-rise.true)
-
-pub loop-k-preserved : goal.loop-k-preserved
-loop-k-preserved c =
-    nearest-next c.args.zones.now c.args.z.now c.args.turn c.args.from _ c.loop-k.k c.loop-k.invariant _ c.loop-k-test.true
-    (sym c.is_next.ensures ∙ c.if-not-is_next.false) _ c.nearer-limit.ensures
-
 pub returns : goal.returns
-returns c = nearest-all c.args.zones.now c.args.z.now c.args.turn c.args.from _ c.loop-k.k c.loop-k.invariant c.loop-k-test.false
+returns c bar =
+    let zones = c.args.zones.now in
+    let z = c.args.z.now in
+    let begins = c.args.begins.now in
+    let from = c.args.from in
+    let by =
+    elim c.if-rise.branch as (λ w. reached_at c.if-rise.next bar ≡ later zones z from bar) [
+      | then-rise w ↦ rw w.next-is (w.first_next-next.ensures bar)
+      | else-rise w ↦
+          let none = w.if-rise.false in
+          rw w.next-is (w.nearest-next.ensures bar ∙ begins-later zones z begins (c.requires.begins none) from bar (c.requires.from none))
+    ]
+    in
+    c.nearer.ensures bar ∙ rw by

@@ -13,15 +13,15 @@ returns-then-reached-clause-pairs c l t =
     c.loop-k.invariant l t
     ∙ pairs-over l c.args.scan.now c.loop-k.k _ t _ (omega (arith, c.saturating_sub-k-end.ensures)) _ c.in-Found.is (sym c.reached.ensures ∙ c.if-reached.true)
 
-pub returns-then-bigs-k-clause-pairs : goal.returns-then-bigs-k-clause-pairs
-returns-then-bigs-k-clause-pairs c l t =
+pub returns-then-from-scan-clause-pairs : goal.returns-then-from-scan-clause-pairs
+returns-then-from-scan-clause-pairs c l t =
     c.loop-k.invariant l t
-    ∙ pairs-at l c.args.scan.now c.loop-k.k _ t _ (omega (arith, c.saturating_sub-k-end.ensures)) _ c.in-Found.is (sym c.reached.ensures ∙ c.if-reached.false) c.if-bigs-k.true
+    ∙ pairs-at l c.args.scan.now c.loop-k.k _ t _ (omega (arith, c.saturating_sub-k-end.ensures)) _ c.in-Found.is (sym c.reached.ensures ∙ c.if-reached.false) (sym c.from.ensures ∙ c.if-from-scan.true)
 
 pub loop-k-preserved : goal.loop-k-preserved
 loop-k-preserved c l t =
     c.loop-k.invariant l t
-    ∙ pairs-skip l c.args.scan.now c.loop-k.k _ t _ (omega (arith, c.saturating_sub-k-end.ensures)) _ c.in-Found.is (sym c.reached.ensures ∙ c.if-reached.false) c.if-bigs-k.false
+    ∙ pairs-skip l c.args.scan.now c.loop-k.k _ t _ (omega (arith, c.saturating_sub-k-end.ensures)) _ c.in-Found.is (sym c.reached.ensures ∙ c.if-reached.false) (λ e. c.if-from-scan.false (c.from.ensures ∙ e))
 
 pub returns-clause-pairs : goal.returns-clause-pairs
 returns-clause-pairs c l t = c.loop-k.invariant l t ∙ pairs-none l c.args.scan.now c.loop-k.k _ t (omega (arith, c.saturating_sub-k-end.ensures))

@@ -30,7 +30,7 @@ returns c l d t started =
       | else-rise w ↦ rw w.next-is refl
     ]
     in
-    rw (get_or_default zones c.args.i d no_zone inside)
+    rw (get_or_default zones c.args.i d no_zone inside, c.from.ensures, c.from-2.ensures, c.wide.ensures)
     (zone-scan l _ _ _ t _ (owned _ _ _ _ t c.args.i _ inside) _ _ _ _ _
     (c.search_from-begin.ensures l started (first-is l _ _ _ t _ (owned _ _ _ _ t c.args.i _ inside) _))
-    (c.start_of.ensures l t.bigs) c.reversal-turn.ensures (λ bar. c.limit_of.ensures bar ∙ rw (same bar) refl))
+    (c.start_of.ensures l t.bigs) c.reversal-turn.ensures (λ bar. c.limit_of-limit.ensures bar ∙ rw (same bar) refl))

@@ -13,15 +13,11 @@ pub loop-i-init : goal.loop-i-init
 loop-i-init c = (refl, λ l t. (ZoneScans.no_scans, tt))
 
 pub scan_of-scan-requires : goal.scan_of-scan-requires
-scan_of-scan-requires c = record { here = (c.loop-i-test.true, c.requires.owned); rise = c.starts_rise-rise.ensures }
+scan_of-scan-requires c = record { here = (c.loop-i-test.true, c.requires.owned); rise = c.starts_rise-rise.ensures; begins = λ fall. c.listed.ensures ∙ c.begins_of-begins.ensures fall }
 
 pub push-requires : goal.push-requires
 push-requires c =
-    let inv = c.loop-i.invariant.0 in
-    let whole = c.loop-i.scans.whole in
-    let few = c.requires.room in
-    let long = length-take c.loop-i.scans.count c.loop-i.scans.rows in
-    (omega arith, (omega arith, omega arith))
+    omega (arith, c.loop-i.invariant.0, c.requires.room, length-take c.loop-i.scans.count c.loop-i.scans.rows)
 
 pub loop-i-preserved : goal.loop-i-preserved
 loop-i-preserved c =

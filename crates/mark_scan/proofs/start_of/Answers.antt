@@ -1,9 +1,6 @@
 -- `mark_scan::start_of` meets its contract. The invariant: the bigs from place k on are left to look at. Assumes nothing.
-use Prim.Native.Nat.{suc, ◌<◌}
 use native.Mathlib.Omega.{arith}
-use lib.ListN.{length}
 use Rattle.mark_scan.proofs.Starts.{start-missing, start-here, start-pass, start_none}
-use Rattle.mark_scan.proofs.start_of.Goals.{in-Found+else-e-span, in_default}
 use Rattle.mark_scan.proofs.start_of.Goals as goal
 
 pub returns-then-e-span : goal.returns-then-e-span
@@ -11,17 +8,18 @@ returns-then-e-span c l t =
     let end = c.min-k-end.ensures in
     start-here l _ t _ _ c.loop-k.k _ (c.loop-k.invariant.1 l t) _ (omega arith) (omega arith) _ c.in-Found.is c.if-e-span.true
 
+pub loop-k-preserved-in_default : goal.loop-k-preserved-in_default
+loop-k-preserved-in_default c =
+    let end = c.min-k-end.ensures in (
+      omega arith,
+      λ l t. start-missing l _ t _ _ c.loop-k.k _ (c.loop-k.invariant.1 l t) _ (omega arith) (omega arith) c.in_default.is,
+    )
+
 pub loop-k-preserved : goal.loop-k-preserved
 loop-k-preserved c =
-    let end = c.min-k-end.ensures in
-    let more : c.loop-k.k < suc c.args.last = omega arith in
-    let some_left : c.loop-k.k < length c.args.bigs.now = omega arith in (
+    let end = c.min-k-end.ensures in (
       omega arith,
-      λ l t.
-          elim c.match-bigs-k.branch [
-            | in-Found+else-e-span w ↦ start-pass l _ t _ _ c.loop-k.k _ (c.loop-k.invariant.1 l t) _ more some_left _ w.in-Found.is w.if-e-span.false
-            | in_default w ↦ start-missing l _ t _ _ c.loop-k.k _ (c.loop-k.invariant.1 l t) _ more some_left w.in_default.is
-          ],
+      λ l t. start-pass l _ t _ _ c.loop-k.k _ (c.loop-k.invariant.1 l t) _ (omega arith) (omega arith) _ c.in-Found.is c.if-e-span.false,
     )
 
 pub returns : goal.returns

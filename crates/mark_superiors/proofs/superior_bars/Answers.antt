@@ -6,8 +6,11 @@ use Rattle.mark_superiors.proofs.superior_bars.Goals as goal
 pub loop-i-init : goal.loop-i-init
 loop-i-init c l t all = zones-first l c.args.h c.args.scans.now c.args.from _ refl
 
-pub returns-then-scans-i : goal.returns-then-scans-i
-returns-then-scans-i c l own later t all =
+pub returns-then-scans-i-clause-small : goal.returns-then-scans-i-clause-small
+returns-then-scans-i-clause-small c = let (l, t, all) = c.requires.of_levels in (c.loop-i.invariant l t all).among.small
+
+pub returns-then-scans-i-clause-bars : goal.returns-then-scans-i-clause-bars
+returns-then-scans-i-clause-bars c l own later t all =
     zones-other l c.args.h c.args.scans.now all c.args.from _ c.loop-i.i (c.loop-i.invariant l t all) _ c.loop-i-test.true c.if-scans-i.true own later
 
 pub zone_bars-requires-clause-among : goal.zone_bars-requires-clause-among
@@ -16,8 +19,11 @@ zone_bars-requires-clause-among c = let (l, t, all) = c.requires.of_levels in (l
 pub loop-i-preserved : goal.loop-i-preserved
 loop-i-preserved c l t all =
     zones-next l c.args.h c.args.scans.now all c.args.from _ c.loop-i.i (c.loop-i.invariant l t all) _ c.loop-i-test.true c.if-scans-i.false
-    _ (c.zone_bars.ensures l t)
+    _ (c.zone_bars.ensures.among l t) (c.zone_bars.ensures.bars l t)
 
-pub returns : goal.returns
-returns c l own later t all =
+pub returns-clause-small : goal.returns-clause-small
+returns-clause-small c = let (l, t, all) = c.requires.of_levels in (c.loop-i.invariant l t all).among.small
+
+pub returns-clause-bars : goal.returns-clause-bars
+returns-clause-bars c l own later t all =
     zones-over l c.args.h c.args.scans.now all c.args.from _ c.loop-i.i (c.loop-i.invariant l t all) c.loop-i-test.false own later

@@ -16,7 +16,7 @@ number_bars-requires-clause-room c =
     let (l, t, h) = c.requires.room in
     let (zones, rows) = c.loop-h.invariant l t in
     let inside = superior_inside l _ t.superiors c.loop-h.h c.loop-h-test.true in
-    let taken = c.superior_bars-at.ensures l _ _ t.bigs t.scanned (block l c.loop-h.h c.loop-h.at zones inside) in
+    let taken = c.superior_bars-at.ensures.bars l _ _ t.bigs t.scanned (block l c.loop-h.h c.loop-h.at zones inside) in
     rows-room l _ _ _ _ c.loop-h.h rows _ t.superiors _ c.loop-h-test.true _ refl _
     (c.listed.ensures ∙ taken.0 ∙ bars-own l c.loop-h.h c.loop-h.at zones inside) h
 
@@ -24,7 +24,7 @@ pub loop-h-preserved : goal.loop-h-preserved
 loop-h-preserved c l t =
     let (zones, rows) = c.loop-h.invariant l t in
     let inside = superior_inside l _ t.superiors c.loop-h.h c.loop-h-test.true in
-    let taken = c.superior_bars-at.ensures l _ _ t.bigs t.scanned (block l c.loop-h.h c.loop-h.at zones inside) in (
+    let taken = c.superior_bars-at.ensures.bars l _ _ t.bigs t.scanned (block l c.loop-h.h c.loop-h.at zones inside) in (
       rest-zones-next l c.loop-h.h c.loop-h.at zones inside _ taken.1,
       rows-next l _ _ _ _ c.loop-h.h rows _ t.superiors _ c.loop-h-test.true _ refl _
           (c.listed.ensures ∙ taken.0 ∙ bars-own l c.loop-h.h c.loop-h.at zones inside) _ c.number_bars.ensures,

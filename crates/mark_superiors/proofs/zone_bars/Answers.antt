@@ -1,5 +1,6 @@
 -- `mark_superiors::zone_bars` meets its contract. The invariant: the bars have those of the pairs so far. Assumes nothing.
 use native.Mathlib.Omega.{arith}
+use mathlib.Core.Path.{refl, ◌∙◌}
 use lib.ListN.{length-take}
 use Rattle.mark_superiors.proofs.ZoneBars.{among_few, pairs-first, pairs-next}
 use Rattle.mark_superiors.proofs.zone_bars.Goals as goal
@@ -16,4 +17,5 @@ insert_near-near-requires-clause-room c =
 
 pub loop-pair-preserved : goal.loop-pair-preserved
 loop-pair-preserved c l t =
-    pairs-next l c.args.scan.now _ _ _ (c.loop-pair.invariant l t) c.in-Some.pair (c.in-Some.ensures.pairs l t) _ c.insert_near-near.ensures
+    pairs-next l c.args.scan.now _ _ _ (c.loop-pair.invariant l t) c.in-Some.pair (c.in-Some.ensures.pairs l t) (omega arith) _
+    (c.insert_near-near.ensures.bars ∙ rw c.from.ensures refl)

@@ -12,7 +12,6 @@ returns c =
       c.put_word-2.ensures.bytes,
       c.put_decimal.ensures.bytes,
       c.from.ensures,
-      c.number.ensures,
       c.put_word.ensures.bytes,
       c.new-text.ensures,
       append_assoc,

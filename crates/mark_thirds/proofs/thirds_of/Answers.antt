@@ -6,5 +6,5 @@ use Rattle.mark_thirds.proofs.thirds_of.Goals as goal
 
 pub returns : goal.returns
 returns c =
-    λ l t h. thirds_are l (quotes_of c.args.quotes.now) c.args.bigs.now c.args.superiors.now c.args.zones.now c.side_of.result _ _ _ t c.side_of.ensures refl
+    λ l t h. thirds_are l (quotes_of c.args.quotes.now) c.args.bigs.now c.args.superiors.now c.args.zones.now c.side_of-side.result _ _ _ t c.side_of-side.ensures.side refl
     (c.zone_marks.ensures.marks l t.bigs (rw t.zones h)) c.anchor_marks.ensures

@@ -11,7 +11,7 @@ loop-at-init c =
 pub push-requires : goal.push-requires
 push-requires c =
     let h = room _ _ _ _ _ _ _ _ c.loop-at.invariant _ _ _ c.in-Some.ensures in
-    let n = all_counted c.loop-at.answers in (lit< tt, (omega (arith, h, n), omega (arith, h, n)))
+    let n = all_counted c.loop-at.answers in (lit< tt, omega (arith, h, n))
 
 pub loop-at-preserved-in-Call : goal.loop-at-preserved-in-Call
 loop-at-preserved-in-Call c =
@@ -21,14 +21,14 @@ loop-at-preserved-in-Call c =
 -- a bar, and room for it
 pub push-requires-in-Bar : goal.push-requires-in-Bar
 push-requires-in-Bar c =
-    let h = bar-room _ _ _ _ _ _ _ _ c.loop-at.invariant _ _ _ _ (rw c.in-Bar.is at c.in-Some.ensures) in (lit< tt, (h, omega (arith, h)))
+    let h = bar-room _ _ _ _ _ _ _ _ c.loop-at.invariant _ _ _ _ (rw c.in-Bar.is at c.in-Some.ensures) in (lit< tt, h)
 
 pub push-requires-in-Bar-2 : goal.push-requires-in-Bar-2
 push-requires-in-Bar-2 c =
     let h = bar-room _ _ _ _ _ _ _ _ c.loop-at.invariant _ _ _ _ (rw c.in-Bar.is at c.in-Some.ensures) in
     let e = even _ _ _ _ _ _ _ _ c.loop-at.invariant in
     let n = all_counted c.loop-at.highs in
-    let m = all_counted c.loop-at.lows in (lit< tt, (omega (arith, h, e, n, m), omega (arith, h, e, n, m)))
+    let m = all_counted c.loop-at.lows in (lit< tt, omega (arith, h, e, n, m))
 
 pub loop-at-preserved : goal.loop-at-preserved
 loop-at-preserved c =

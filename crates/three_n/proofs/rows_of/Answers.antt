@@ -14,7 +14,7 @@ superior_rows-requires-clause-room c =
     let thirds = c.thirds_of.ensures l t (rw c.listed.ensures scanned) in (
       l,
       record { bigs = t.bigs; superiors = t.superiors; scanned = rw c.listed-3.ensures scanned },
-      put-room l _ _ _ _ _ thirds c.listed-2.ensures c.listed-4.ensures c.zero_rows-marks.ensures (bigs_few l _ t.bigs c.requires.few.0),
+      put-room l _ _ _ _ _ thirds c.listed-2.ensures c.listed-4.ensures c.zero_rows.ensures (bigs_few l _ t.bigs c.requires.few.0),
     )
 
 pub anchor_rows-requires-clause-apart : goal.anchor_rows-requires-clause-apart
@@ -24,7 +24,7 @@ anchor_rows-requires-clause-apart c =
     let thirds = c.thirds_of.ensures l t (rw c.listed.ensures scanned) in
     let scans : ScansOf l c.args.bigs.now c.args.superiors.now c.listed-3.result.now =
     record { bigs = t.bigs; superiors = t.superiors; scanned = rw c.listed-3.ensures scanned } in
-    rows-apart l _ _ _ _ _ thirds c.listed-2.ensures c.listed-4.ensures c.zero_rows-marks.ensures _ (c.superior_rows.ensures l scans)
+    rows-apart l _ _ _ _ _ thirds c.listed-2.ensures c.listed-4.ensures c.zero_rows.ensures _ (c.superior_rows.ensures l scans)
 
 pub anchor_rows-requires-clause-room : goal.anchor_rows-requires-clause-room
 anchor_rows-requires-clause-room c =
@@ -33,8 +33,8 @@ anchor_rows-requires-clause-room c =
     let thirds = c.thirds_of.ensures l t (rw c.listed.ensures scanned) in
     let scans : ScansOf l c.args.bigs.now c.args.superiors.now c.listed-3.result.now =
     record { bigs = t.bigs; superiors = t.superiors; scanned = rw c.listed-3.ensures scanned } in
-    rows-room l _ _ _ _ _ thirds c.listed-2.ensures c.listed-4.ensures c.zero_rows-marks.ensures _ (c.superior_rows.ensures l scans) _ _ _ _ t.bigs
-    t.superiors c.side_of-side.ensures (c.anchor_limit-limit.ensures l t.superiors t.bigs) (bigs_few l _ t.bigs c.requires.few.0)
+    rows-room l _ _ _ _ _ thirds c.listed-2.ensures c.listed-4.ensures c.zero_rows.ensures _ (c.superior_rows.ensures l scans) _ _ _ _ t.bigs
+    t.superiors c.side_of-side.ensures.side (c.anchor_limit-limit.ensures.limit l t.superiors t.bigs) (bigs_few l _ t.bigs c.requires.few.0)
 
 pub returns : goal.returns
 returns c l t =
@@ -43,5 +43,5 @@ returns c l t =
     let scans : ScansOf l c.args.bigs.now c.args.superiors.now c.listed-3.result.now =
     record { bigs = t.bigs; superiors = t.superiors; scanned = rw c.listed-3.ensures scanned } in
     c.anchor_rows.ensures
-    ∙ rows-all l _ _ _ _ _ thirds c.listed-2.ensures c.listed-4.ensures c.zero_rows-marks.ensures _ (c.superior_rows.ensures l scans) _ _ _ _ t.bigs
-    t.superiors c.side_of-side.ensures (c.anchor_limit-limit.ensures l t.superiors t.bigs)
+    ∙ rows-all l _ _ _ _ _ thirds c.listed-2.ensures c.listed-4.ensures c.zero_rows.ensures _ (c.superior_rows.ensures l scans) _ _ _ _ t.bigs
+    t.superiors c.side_of-side.ensures.side (c.anchor_limit-limit.ensures.limit l t.superiors t.bigs)

@@ -9,4 +9,4 @@ pub push-requires : goal.push-requires
 push-requires c =
     let n : c.loop-mark.marks.count < 512 =
     omega (arith, count_is c.loop-mark.marks _ c.loop-mark.invariant, length-map {A = ThirdMark} {B = NMark}, length-take {A = ThirdMark}) in
-    (omega arith, (n, omega arith))
+    omega arith

@@ -1,6 +1,6 @@
 -- The loop ends, and counts the bytes at the buffer's start.
 use Rattle.std.proofs.Common.{length, ◌-◌, ◌≤◌}
-use Rattle.files.proofs.read_full.Given as goal
+use Rattle.files.proofs.read_all.Given as goal
 
 abbrev pub invariant-loop-done : goal.invariant-loop-done
 invariant-loop-done g l = l.done ≤ length l.buffer

@@ -1,4 +1,4 @@
--- `zones::tables_of` meets its contract. Assumes nothing.
+-- `zones::fill_tables` meets its contract. Assumes nothing.
 use Rattle.std.proofs.Common.{◌≡◌, arith, ◌∙◌}
 use Rattle.std.proofs.lemmas.Result.{err_from_is_err_and, on_ok_weaker}
 use Rattle.rows.specs.Rows.{rows_in}
@@ -9,8 +9,8 @@ use Rattle.laws.proofs.Answers.{counted}
 use Rattle.tables.proofs.Filled.{few_taken, count-rows}
 use Rattle.zones.specs.Overlap.{capped}
 use Rattle.zones.proofs.Call.{is_good, number-bad, number-own, number-zones, number-capped, rows-capped, over_bigs}
-use Rattle.zones.proofs.tables_of.Goals.{After-overlap}
-use Rattle.zones.proofs.tables_of.Goals as goal
+use Rattle.zones.proofs.fill_tables.Goals.{After-overlap}
+use Rattle.zones.proofs.fill_tables.Goals as goal
 
 pub returns-in_err-bigs_of-clause-number : goal.returns-in_err-bigs_of-clause-number
 returns-in_err-bigs_of-clause-number c =
