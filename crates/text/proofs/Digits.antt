@@ -36,11 +36,21 @@ front_fits n front h e = omega (arith, ap length e, counted front, decimal-lengt
 pub nothing_fits : (front : Rows ℕ 20) → rows_in front ≡ [] → front.count < 20
 nothing_fits front e = omega (arith, ap length e, counted front)
 
-pub decimal_last : (n : ℕ) (front : List ℕ) → 10 ≤ n → front ≡ decimal (n / 10) → front ++ ((48 + n % 10) ∷ []) ≡ decimal n
-decimal_last n front h e = rw (e, decimal_large n h)
+pub digits_last : (n : ℕ) (front : List ℕ) → 10 ≤ n → front ≡ decimal (n / 10) → front ++ ((48 + n % 10) ∷ []) ≡ decimal n
+digits_last n front h e = rw (e, decimal_large n h)
 
-pub decimal_only : (n : ℕ) (front : List ℕ) → n < 10 → front ≡ [] → front ++ ((48 + n % 10) ∷ []) ≡ decimal n
-decimal_only n front h e = let same : n % 10 ≡ n = omega arith in rw (e, decimal-small n h, same)
+pub digits_only : (n : ℕ) (front : List ℕ) → n < 10 → front ≡ [] → front ++ ((48 + n % 10) ∷ []) ≡ decimal n
+digits_only n front h e = let same : n % 10 ≡ n = omega arith in rw (e, decimal-small n h, same)
+
+-- ---- a number put behind a text: what its front leaves there, and its last digit behind that
+
+pub decimal_last :
+    (old mid new : List ℕ) (n : ℕ) → 10 ≤ n → mid ≡ old ++ decimal (n / 10) → new ≡ mid ++ ((48 + n % 10) ∷ []) → new ≡ old ++ decimal n
+decimal_last old mid new n h e f =
+    f ∙ ap (λ t. t ++ ((48 + n % 10) ∷ [])) e ∙ append_assoc old (decimal (n / 10)) _ ∙ ap (λ t. old ++ t) (digits_last n _ h refl)
+
+pub decimal_only : (old new : List ℕ) (n : ℕ) → n < 10 → new ≡ old ++ ((48 + n % 10) ∷ []) → new ≡ old ++ decimal n
+decimal_only old new n h e = e ∙ ap (λ t. old ++ t) (digits_only n [] h refl)
 
 -- ---- a number in hexadecimal put behind a text: what its front leaves there, and its last digit behind that
 

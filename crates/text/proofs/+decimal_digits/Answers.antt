@@ -1,6 +1,6 @@
 -- Behind the front of the number, of ten or more, comes its last digit. Assumes nothing.
 use Rattle.std.proofs.Common.{lit<, ◌∙◌}
-use Rattle.text.proofs.Digits.{front_fits, nothing_fits, decimal_last, decimal_only}
+use Rattle.text.proofs.Digits.{front_fits, nothing_fits, digits_last, digits_only}
 use Rattle.text.proofs.+decimal_digits.Goals.{then-n-ge10, else-n-ge10}
 use Rattle.text.proofs.+decimal_digits.Goals as goal
 
@@ -17,6 +17,6 @@ pub returns : goal.returns
 returns t c =
     c.push.ensures
     ∙ elim c.if-n-ge10.branch [
-      | then-n-ge10 w ↦ rw w.digits-is (decimal_last c.args.n _ w.if-n-ge10.true w.decimal_digits-digits.ensures)
-      | else-n-ge10 w ↦ rw w.digits-is (decimal_only c.args.n _ w.if-n-ge10.false c.new-digits.ensures)
+      | then-n-ge10 w ↦ rw w.digits-is (digits_last c.args.n _ w.if-n-ge10.true w.decimal_digits-digits.ensures)
+      | else-n-ge10 w ↦ rw w.digits-is (digits_only c.args.n _ w.if-n-ge10.false c.new-digits.ensures)
     ]
