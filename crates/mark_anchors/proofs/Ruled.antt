@@ -8,9 +8,11 @@ use Rattle.chart.specs.Table.{option_of}
 use Rattle.rules.specs.Lists.{keep, before, each}
 use Rattle.rules.specs.Records.{Levels, Quotes}
 use Rattle.rules.specs.Marks.{beats, numbered, anchors_of, anchor_side, anchor_price, anchor_bars, anchor_stop, anchor_numbered, reaches}
-use Rattle.tables.specs.Tables.{bigs_of, bar_of}
+use Rattle.tables.specs.Tables.{bigs_of, superiors_of, bar_of}
 use Rattle.mark_scan.specs.Scan.{reached_at}
-use Rattle.mark_hits.specs.Anchors.{anchors_in, ends_behind}
+use Rattle.mark_hits.specs.declared.Anchor.{Anchor}
+use Rattle.mark_hits.specs.Anchors.{side_by, anchors_in, ends_behind}
+use Rattle.mark_hits.proofs.Anchors.{among_by}
 use Rattle.mark_hits.proofs.Ruled.{own_side, bar, anchor_by, anchors_are, side_is, price_is, bars_are}
 use Rattle.mark_anchors.specs.Anchored.{anchor_hits, side_hits}
 use Rattle.mark_anchors.proofs.Limits.{reaches-is}
@@ -51,8 +53,14 @@ module _ (c : Levels) (q : Quotes) where
   each-is (s ∷ ss) = rw (anchor-is s, each-is ss)
 
   pub hits-are :
-      side_hits q (bigs_of c) (own_side c) (bar_of (anchor_stop c (own_side c).buy))
+      side_hits q (bigs_of c) (side_by (superiors_of c)) (bar_of (anchor_stop c (side_by (superiors_of c)).buy))
       ≡ each (anchor_numbered c q buy) (anchors_of c c.superiors)
   hits-are =
-      ap (λ (b : Bool). each (anchor_hits q (bigs_of c) b (bar_of (anchor_stop c b))) (anchors_in (own_side c) (bigs_of c))) (side_is c)
+      ap (λ (b : Bool). each (anchor_hits q (bigs_of c) b (bar_of (anchor_stop c b))) (anchors_in (side_by (superiors_of c)) (bigs_of c))) (side_is c)
       ∙ ap (each (anchor_hits q (bigs_of c) buy limit)) (anchors_are c) ∙ each-is (anchors_of c c.superiors)
+
+  pub own_hits-are :
+      side_hits q (bigs_of c) (own_side c) (bar_of (anchor_stop c (own_side c).buy))
+      ≡ each (anchor_numbered c q buy) (anchors_of c c.superiors)
+  own_hits-are =
+      among_by (λ (b : Bool) (l : List Anchor). each (anchor_hits q (bigs_of c) b (bar_of (anchor_stop c b))) l) (superiors_of c) (bigs_of c) ∙ hits-are

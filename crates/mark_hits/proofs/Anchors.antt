@@ -1,9 +1,9 @@
 -- The ends of bigs: the place of the first that ends behind a bar, and what follows it. Assumes nothing.
-use Rattle.std.proofs.Common.{ℕ, suc, zero, ◌+◌, ◌-◌, ◌<◌, ◌≤◌, ◌≡◌, refl, ap, arith, Bool, true, false, cond, ◌&&◌}
+use Rattle.std.proofs.Common.{ℕ, suc, zero, ◌+◌, ◌-◌, ◌<◌, ◌≤◌, ◌≡◌, refl, ap, ◌∙◌, arith, Bool, true, false, cond, ◌&&◌}
 use Rattle.std.proofs.Common.{List, [], ◌∷◌, ◌++◌, map, length, take, drop, get_or, Some, None, Float, add-one, length-drop}
 use Rattle.std.proofs.Math.Seq.{take-suc}
 use Rattle.std.proofs.lemmas.Bool.{false≢true}
-use Rattle.std.proofs.lemmas.List.{take_all, append-nil, length-map, length-take}
+use Rattle.std.proofs.lemmas.List.{take_all, take_min, append-nil, length-map, length-take}
 use borrow.Author.Tests.{le-ltb, ltb-false}
 use Rattle.std.specs.Bool.{beq}
 use Rattle.std.specs.declared.option as code
@@ -15,9 +15,11 @@ use Rattle.rows.specs.Rows.{rows_in}
 use Rattle.rules.specs.Lists.{collect, before}
 use Rattle.laws.proofs.Lists.{collect-length, map-append}
 use Rattle.tables.specs.declared.Big.{Big}
+use Rattle.tables.specs.declared.Superior.{Superior}
 use Rattle.mark_hits.specs.declared.Anchor.{Anchor}
 use Rattle.mark_hits.specs.declared.Side.{Side}
 use Rattle.mark_hits.specs.Anchors.{is_behind, is_along, point_behind, end_behind, ends_behind, place_behind, place_along, first_price, anchor_at, point_in, ends_in, anchors_in}
+use Rattle.mark_hits.specs.Anchors.{side_by, side_among}
 
 -- ---- the first element that passes a test
 
@@ -228,6 +230,17 @@ ends_few f xs i = omega (arith, length-map (ends_in (take i xs)) f, collect-leng
 pub count_is : {A : Type 0} {N : ℕ} (r : Rows A N) (l : List A) → rows_in r ≡ l → r.count ≡ length l
 count_is r l e = omega (arith, ap length e, length-take r.count r.rows, r.inside, r.whole)
 
+-- the anchor that ends at a point
+pub anchor_is :
+    (bs : List Big) (buy : Bool) (e : EndPoint) (from : ℕ) (price : code.Option.Option Float) → from ≡ place_behind e.bar bs
+    → price ≡ first_price (ends_behind buy e.bar (take (length bs - from) (drop from bs)))
+    → ◌≡◌ {A = Anchor} (record { bar = e.bar; from = from; price = price }) (anchor_at bs buy e)
+anchor_is bs buy e from price f g =
+    let rest : take (length bs - from) (drop from bs) ≡ drop from bs = take_all (length bs - from) (drop from bs) (omega (arith, length-drop from bs)) in
+    let left : ends_behind buy e.bar (drop from bs) ≡ ends_behind buy e.bar bs = rw f (ends_from e.bar buy bs) in
+    let same : price ≡ first_price (ends_behind buy e.bar bs) = g ∙ ap (λ (l : List Big). first_price (ends_behind buy e.bar l)) rest ∙ ap first_price left in
+    rw (same, f)
+
 -- the place of an anchor is one of the bigs, or behind them
 pub anchor_inside : (s : Side) (bigs : List Big) (i : ℕ) (d : Anchor) → i < length (anchors_in s bigs) → (get_or (anchors_in s bigs) i d).from ≤ length bigs
 anchor_inside s bigs i d h = go (ends_in (take s.anchors bigs)) i h
@@ -236,3 +249,11 @@ anchor_inside s bigs i d h = go (ends_in (take s.anchors bigs)) i h
     go [] i h = absurd (omega arith)
     go (e ∷ es) zero h = place_le e.bar bigs
     go (e ∷ es) (suc i) h = go es i (omega arith)
+
+-- the side that the number of bigs caps has the buy and the anchors of the other, so whatever is made of these is the same
+pub among_by :
+    {A : Type 0} (f : Bool → List Anchor → A) (ss : List Superior) (bigs : List Big)
+    → f (side_among ss (length bigs)).buy (anchors_in (side_among ss (length bigs)) bigs) ≡ f (side_by ss).buy (anchors_in (side_by ss) bigs)
+among_by f [] bigs = refl
+among_by f (s ∷ ss) bigs =
+    ap (λ (bs : List Big). f (is_up s.direction) (map (anchor_at bigs (is_up s.direction)) (ends_in bs))) (take_min s.first bigs)

@@ -1,7 +1,6 @@
 -- The ends of bigs and the anchors of a chart's levels are those of the rules. Assumes nothing.
 use Rattle.std.proofs.Common.{ℕ, zero, suc, Float, ◌≤◌, ◌≡◌, refl, ap, ◌∙◌, Bool, true, false, not, List, [], ◌∷◌, map, length, take, drop, ltb}
 use Rattle.std.specs.Bool.{beq}
-use Rattle.std.proofs.lemmas.List.{take_min}
 use Rattle.std.proofs.lemmas.Simd.{map-map}
 use Rattle.std.proofs.Math.Option.{Option, none, some}
 use Rattle.chart.specs.declared.EndPoint.{EndPoint}
@@ -12,12 +11,11 @@ use Rattle.rules.specs.Lists.{keep, collect}
 use Rattle.rules.specs.Records.{is_up, Levels}
 use Rattle.rules.specs.Ranges.{last_stroke}
 use Rattle.rules.specs.Marks.{anchors_of, anchor_side, ends_after, anchor_price, anchor_bars}
-use Rattle.tables.specs.declared.Big.{Big}
 use Rattle.tables.specs.Tables.{big_of, bigs_of, superior_of, superiors_of}
 use Rattle.mark_hits.specs.declared.Anchor.{Anchor}
 use Rattle.mark_hits.specs.declared.Side.{Side}
-use Rattle.mark_hits.specs.Anchors.{ends_behind, side_by, first_price, anchor_at, ends_in, anchors_in}
-use Rattle.mark_hits.proofs.Anchors.{place_le, ends_from}
+use Rattle.mark_hits.specs.Anchors.{ends_behind, side_by, side_among, first_price, anchor_at, ends_in, anchors_in}
+use Rattle.mark_hits.proofs.Anchors.{place_le, ends_from, among_by}
 
 abbrev pub bar : EndPoint → ℕ
 bar e = e.bar
@@ -63,15 +61,11 @@ module _ (c : Levels) where
   abbrev buy : Bool
   buy = anchor_side c.superiors
 
-  -- the anchors' side, by the superiors and how many bigs there are
-  abbrev pub own_side : Side
-  own_side = side_by (superiors_of c) (length (bigs_of c))
-
-  pub side_is : own_side.buy ≡ anchor_side c.superiors
+  pub side_is : (side_by (superiors_of c)).buy ≡ anchor_side c.superiors
   unfolding anchor_side
   side_is = go c.superiors
     where
-      go : (ss : List Triple) → (side_by (map (superior_of c) ss) (length (bigs_of c))).buy ≡ anchor_side ss
+      go : (ss : List Triple) → (side_by (map (superior_of c) ss)).buy ≡ anchor_side ss
       go [] = refl
       go (s ∷ ss) = refl
 
@@ -90,18 +84,27 @@ module _ (c : Levels) where
       go none e r = rw (collect, e) r
       go (some s) e r = rw (collect, e) (ap (λ l. point s ∷ l) r)
 
-  pub anchors_are : anchors_in own_side (bigs_of c) ≡ map anchor_by (anchors_of c c.superiors)
+  pub anchors_are : anchors_in (side_by (superiors_of c)) (bigs_of c) ≡ map anchor_by (anchors_of c c.superiors)
   unfolding anchors_of anchor_side
   anchors_are = go c.superiors
     where
       go :
-          (ss : List Triple) → anchors_in (side_by (map (superior_of c) ss) (length (bigs_of c))) (bigs_of c)
+          (ss : List Triple) → anchors_in (side_by (map (superior_of c) ss)) (bigs_of c)
           ≡ map (λ (s : Stroke). anchor_at (bigs_of c) (anchor_side ss) (point s)) (anchors_of c ss)
       go [] = refl
       go (s ∷ ss) =
-          ap (λ (bs : List Big). map (anchor_at (bigs_of c) (is_up s.direction)) (ends_in bs)) (take_min s.first (bigs_of c))
-          ∙ ap (map (anchor_at (bigs_of c) (is_up s.direction))) (points_ruled s.first c.bigs)
+          ap (map (anchor_at (bigs_of c) (is_up s.direction))) (points_ruled s.first c.bigs)
           ∙ map-map (anchor_at (bigs_of c) (is_up s.direction)) point (collect (last_stroke c) (take s.first c.bigs))
+
+  -- the anchors' side, by the superiors and how many bigs there are
+  abbrev pub own_side : Side
+  own_side = side_among (superiors_of c) (length (bigs_of c))
+
+  pub own_side_is : own_side.buy ≡ anchor_side c.superiors
+  own_side_is = among_by (λ (b : Bool) (l : List Anchor). b) (superiors_of c) (bigs_of c) ∙ side_is
+
+  pub own_anchors_are : anchors_in own_side (bigs_of c) ≡ map anchor_by (anchors_of c c.superiors)
+  own_anchors_are = among_by (λ (b : Bool) (l : List Anchor). l) (superiors_of c) (bigs_of c) ∙ anchors_are
 
   module _ (s : Stroke) where
     pub price_is : option_of (anchor_by s).price ≡ anchor_price c buy s

@@ -44,10 +44,15 @@ place_along up after bs = length (before (is_along up after) bs)
 
 -- ---- anchors
 
+-- How many of the first bigs are looked at for anchors, and whether the anchors' marks are buys: by the first superior
+abbrev pub side_by : List Superior → Side
+side_by [] = record { anchors = 0; buy = true }
+side_by (s ∷ ss) = record { anchors = s.first; buy = is_up s.direction }
+
 -- How many of the first bigs, of so many, are looked at for anchors, and whether the anchors' marks are buys: by the first superior
-abbrev pub side_by : List Superior → ℕ → Side
-side_by [] bigs = record { anchors = 0; buy = true }
-side_by (s ∷ ss) bigs = record { anchors = min s.first bigs; buy = is_up s.direction }
+abbrev pub side_among : List Superior → ℕ → Side
+side_among [] bigs = record { anchors = 0; buy = true }
+side_among (s ∷ ss) bigs = record { anchors = min s.first bigs; buy = is_up s.direction }
 
 -- the price of the first of some end points
 abbrev pub first_price : List EndPoint → code.Option.Option Float

@@ -11,7 +11,7 @@ ghost use Rattle.rows.specs.Rows.{rows_in};
 ghost use Rattle.rules.specs.Marks.{side, quote};
 ghost use Rattle.rules.specs.Refusals.{bad_slices};
 ghost use Rattle.mark_hits.specs.Quotes.{quotes_of, quotes_refusal, hit_price};
-ghost use Rattle.mark_hits.specs.Anchors.{end_behind, is_behind, place_behind, is_along, place_along, side_by, anchors_in, ends_behind, first_price};
+ghost use Rattle.mark_hits.specs.Anchors.{end_behind, is_behind, place_behind, is_along, place_along, side_among, anchors_in, ends_behind, first_price};
 
 use chart::{EndPoint, Refusal};
 use rows::Rows;
@@ -152,7 +152,7 @@ pub struct Side {
 // By the first superior: the bigs before its first, of so many bigs, and its direction.
 pub fn side_of(superiors: &[Superior], bigs: usize) -> Side
     ensures few { result.anchors ≤ bigs }
-    ensures side { result ≡ side_by superiors.now bigs }
+    ensures side { result ≡ side_among superiors.now bigs }
 {
     let Some(first) = superiors.first() else {
         return Side {

@@ -12,13 +12,15 @@ use Rattle.rules.specs.Zones.{overlap_zones}
 use Rattle.rules.specs.Marks.{zone_third, anchors_of, anchor_side, anchor_third, anchor_price, add_third, third_marks}
 use Rattle.tables.specs.declared.Big.{Big}
 use Rattle.tables.specs.declared.Superior.{Superior}
-use Rattle.tables.specs.Tables.{bigs_of}
+use Rattle.tables.specs.Tables.{bigs_of, superiors_of}
 use Rattle.mark_scan.specs.declared.Scan.{Scan}
 use Rattle.mark_scan.specs.Scan.{TablesOf, ZoneScan, ZoneScans, scan_and}
 use Rattle.mark_scan.proofs.Scans.{scanned-is}
 use Rattle.mark_hits.specs.declared.Side.{Side}
-use Rattle.mark_hits.specs.Anchors.{side_by, anchors_in}
-use Rattle.mark_hits.proofs.Ruled.{own_side, anchor_by, side_is, anchors_are, price_is, bars_are}
+use Rattle.mark_hits.specs.declared.Anchor.{Anchor}
+use Rattle.mark_hits.specs.Anchors.{side_by, side_among, anchors_in}
+use Rattle.mark_hits.proofs.Anchors.{among_by}
+use Rattle.mark_hits.proofs.Ruled.{anchor_by, side_is, anchors_are, price_is, bars_are}
 use Rattle.mark_thirds.specs.Third.{listed, zone_mark, anchor_mark}
 
 module _ (c : Levels) (q : Quotes) where
@@ -68,10 +70,10 @@ module _ (c : Levels) (q : Quotes) where
   each_map g f h e (x ∷ xs) = rw (e x, each_map g f h e xs)
 
   anchors_third :
-      each (anchor_mark (bigs_of c) q (own_side c).buy) (anchors_in (own_side c) (bigs_of c))
+      each (anchor_mark (bigs_of c) q (side_by (superiors_of c)).buy) (anchors_in (side_by (superiors_of c)) (bigs_of c))
       ≡ each (anchor_third c q buy) (anchors_of c c.superiors)
   anchors_third =
-      ap (λ (b : Bool). each (anchor_mark (bigs_of c) q b) (anchors_in (own_side c) (bigs_of c))) (side_is c)
+      ap (λ (b : Bool). each (anchor_mark (bigs_of c) q b) (anchors_in (side_by (superiors_of c)) (bigs_of c))) (side_is c)
       ∙ ap (each (anchor_mark (bigs_of c) q buy)) (anchors_are c)
       ∙ each_map (anchor_mark (bigs_of c) q buy) (anchor_by c) (anchor_third c q buy) anchor_is (anchors_of c c.superiors)
 
@@ -79,10 +81,19 @@ module _ (c : Levels) (q : Quotes) where
 
   pub thirds_are :
       (bigs : List Big) (superiors : List Superior) (zones : List Zone) (side : Side) (m0 m1 m2 : List ThirdMark) → TablesOf c bigs superiors zones
-      → side ≡ side_by superiors (length bigs) → m0 ≡ [] → m1 ≡ foldl add_third m0 (each (zone_third c q (overlap_zones c)) zones)
+      → side ≡ side_by superiors → m0 ≡ [] → m1 ≡ foldl add_third m0 (each (zone_third c q (overlap_zones c)) zones)
       → m2 ≡ foldl add_third m1 (each (anchor_mark bigs q side.buy) (anchors_in side bigs)) → m2 ≡ third_marks c q
   unfolding third_marks
   thirds_are bigs superiors zones side m0 m1 m2 t e f g h =
       let all = rw (g, f, t.zones, e, t.superiors, t.bigs) at h in
       let same = rw anchors_third at all in
       rw (third_marks, foldl-append) same
+
+  pub own_thirds_are :
+      (bigs : List Big) (superiors : List Superior) (zones : List Zone) (side : Side) (m0 m1 m2 : List ThirdMark) → TablesOf c bigs superiors zones
+      → side ≡ side_among superiors (length bigs) → m0 ≡ [] → m1 ≡ foldl add_third m0 (each (zone_third c q (overlap_zones c)) zones)
+      → m2 ≡ foldl add_third m1 (each (anchor_mark bigs q side.buy) (anchors_in side bigs)) → m2 ≡ third_marks c q
+  own_thirds_are bigs superiors zones side m0 m1 m2 t e f g h =
+      let marks = among_by (λ (b : Bool) (l : List Anchor). each (anchor_mark bigs q b) l) superiors bigs in
+      let all = rw (e, marks) at h in
+      thirds_are bigs superiors zones (side_by superiors) m0 m1 m2 t refl f g all

@@ -1,5 +1,5 @@
 -- The rows of the 3+N marks from their parts: the third marks, the marks of the superiors and those of the anchors. Assumes nothing.
-use Rattle.std.proofs.Common.{◌≡◌, ◌≤◌, ℕ, List, [], length, map, refl, sym, ap, ◌∙◌, arith}
+use Rattle.std.proofs.Common.{◌≡◌, ◌≤◌, ℕ, Bool, List, [], length, map, refl, sym, ap, ◌∙◌, arith}
 use Rattle.std.specs.declared.option as code
 use mathlib.Core.List.{foldl}
 use Rattle.chart.specs.declared.NMark.{NMark}
@@ -17,10 +17,11 @@ use Rattle.tables.specs.declared.Big.{Big}
 use Rattle.tables.specs.declared.Superior.{Superior}
 use Rattle.tables.specs.Tables.{big_of, bigs_of, superiors_of, bar_of}
 use Rattle.mark_hits.specs.declared.Side.{Side}
-use Rattle.mark_hits.specs.Anchors.{side_by}
-use Rattle.mark_hits.proofs.Ruled.{own_side}
+use Rattle.mark_hits.specs.declared.Anchor.{Anchor}
+use Rattle.mark_hits.specs.Anchors.{side_by, side_among}
+use Rattle.mark_hits.proofs.Anchors.{among_by}
 use Rattle.mark_rows.proofs.Pushed.{pushes_fit, pushes_append}
-use Rattle.mark_anchors.specs.Anchored.{side_hits}
+use Rattle.mark_anchors.specs.Anchored.{anchor_hits, side_hits}
 use Rattle.mark_anchors.proofs.Ruled.{hits-are}
 
 module _ (c : Levels) (q : Quotes) where
@@ -72,11 +73,11 @@ module _ (c : Levels) (q : Quotes) where
         module _
             (bigs : List Big) (superiors : List Superior) (side : Side) (limit : code.Option.Option ℕ) (b : bigs ≡ bigs_of c)
             (s : superiors ≡ superiors_of c)
-            (by : side ≡ side_by superiors (length bigs)) (stop : limit ≡ bar_of (anchor_stop c side.buy))
+            (by : side ≡ side_by superiors) (stop : limit ≡ bar_of (anchor_stop c side.buy))
           where
             hits : side_hits q bigs side limit ≡ anchor_marks
             hits =
-                let own : side ≡ own_side c = by ∙ rw (s, b) refl in
+                let own : side ≡ side_by (superiors_of c) = by ∙ ap side_by s in
                 rw (b, stop, own) (hits-are c q)
 
             pub rows-all : foldl push_3n rows (side_hits q bigs side limit) ≡ n_marks c q
@@ -84,6 +85,21 @@ module _ (c : Levels) (q : Quotes) where
 
             pub rows-room : length c.bigs ≤ 256 → length (foldl push_3n rows (side_hits q bigs side limit)) ≤ 512
             rows-room few = rw rows-all (marks_512 c q few)
+
+        -- the same by the side that the number of bigs caps
+        module _
+            (bigs : List Big) (superiors : List Superior) (side : Side) (limit : code.Option.Option ℕ) (b : bigs ≡ bigs_of c)
+            (s : superiors ≡ superiors_of c)
+            (by : side ≡ side_among superiors (length bigs)) (stop : limit ≡ bar_of (anchor_stop c side.buy))
+          where
+            pub own_rows-all : foldl push_3n rows (side_hits q bigs side limit) ≡ n_marks c q
+            own_rows-all =
+                let hits = among_by (λ (buy : Bool) (l : List Anchor). each (anchor_hits q bigs buy limit) l) superiors bigs in
+                let same = among_by (λ (buy : Bool) (l : List Anchor). bar_of (anchor_stop c buy)) superiors bigs in
+                rw (by, hits) (rows-all bigs superiors (side_by superiors) limit b s refl (rw (← by) stop ∙ same))
+
+            pub own_rows-room : length c.bigs ≤ 256 → length (foldl push_3n rows (side_hits q bigs side limit)) ≤ 512
+            own_rows-room few = rw own_rows-all (marks_512 c q few)
 
 -- as many bigs as their table has
 pub bigs_few : (c : Levels) (bigs : List Big) → bigs ≡ bigs_of c → length bigs ≤ 256 → length c.bigs ≤ 256

@@ -1,7 +1,7 @@
 use Rattle.std.proofs.Common.{◌∙◌}
 use Rattle.mark_superiors.specs.Superiors.{ScansOf}
 use Rattle.mark_scan.proofs.Scans.{owned}
-use Rattle.three_n.proofs.Parts.{put-room, rows-apart, rows-room, rows-all, bigs_few}
+use Rattle.three_n.proofs.Parts.{put-room, rows-apart, own_rows-room, own_rows-all, bigs_few}
 use Rattle.three_n.proofs.rows_of.Goals as goal
 
 pub scans_of-requires-clause-owned : goal.scans_of-requires-clause-owned
@@ -33,7 +33,7 @@ anchor_rows-requires-clause-room c =
     let thirds = c.thirds_of.ensures l t (rw c.listed.ensures scanned) in
     let scans : ScansOf l c.args.bigs.now c.args.superiors.now c.listed-3.result.now =
     record { bigs = t.bigs; superiors = t.superiors; scanned = rw c.listed-3.ensures scanned } in
-    rows-room l _ _ _ _ _ thirds c.listed-2.ensures c.listed-4.ensures c.zero_rows.ensures _ (c.superior_rows.ensures l scans) _ _ _ _ t.bigs
+    own_rows-room l _ _ _ _ _ thirds c.listed-2.ensures c.listed-4.ensures c.zero_rows.ensures _ (c.superior_rows.ensures l scans) _ _ _ _ t.bigs
     t.superiors c.side_of-side.ensures.side (c.anchor_limit-limit.ensures.limit l t.superiors t.bigs) (bigs_few l _ t.bigs c.requires.few.0)
 
 pub returns : goal.returns
@@ -43,5 +43,5 @@ returns c l t =
     let scans : ScansOf l c.args.bigs.now c.args.superiors.now c.listed-3.result.now =
     record { bigs = t.bigs; superiors = t.superiors; scanned = rw c.listed-3.ensures scanned } in
     c.anchor_rows.ensures
-    ∙ rows-all l _ _ _ _ _ thirds c.listed-2.ensures c.listed-4.ensures c.zero_rows.ensures _ (c.superior_rows.ensures l scans) _ _ _ _ t.bigs
+    ∙ own_rows-all l _ _ _ _ _ thirds c.listed-2.ensures c.listed-4.ensures c.zero_rows.ensures _ (c.superior_rows.ensures l scans) _ _ _ _ t.bigs
     t.superiors c.side_of-side.ensures.side (c.anchor_limit-limit.ensures.limit l t.superiors t.bigs)
