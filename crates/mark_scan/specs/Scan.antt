@@ -56,6 +56,12 @@ Later from m (Some p) = (from < p.next) × (p.next < m)
 
 -- ---- the scans of all zones
 
+-- a scan's numbers are those of a u16, a u8 and a bar
+pub record SmallScan (s : Scan) : Type 0 where
+  pub superior : s.superior < 0x1_0000
+  pub direction : s.direction < 0x100
+  pub limit : (bar : ℕ) → s.limit ≡ Some bar → bar < 0x1_0000
+
 -- The scan of zone z starts at the big at place k
 abbrev pub StartsAt : Levels → Zone → ℕ → Type 0
 StartsAt c z k = let h = superior_of c z in leaving c z.end_bar (suc h.last - h.first) (drop h.first c.bigs) ≡ drop k c.bigs

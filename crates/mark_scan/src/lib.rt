@@ -2,16 +2,19 @@
 
 #![tactic(auto)]
 
-ghost use Rattle.std.specs.Prelude.{◌≡◌, ℕ, true, false, not, cond, ◌&&◌, ◌||◌, ◌==◌, [], suc, ◌-◌, ◌<◌, ◌≤◌, length, drop, get_or, eqb, leb, ltb, filter, filter_map, find, map};
+ghost use Rattle.std.specs.Prelude.{◌≡◌, ℕ, true, false, not, cond, ◌&&◌, ◌||◌, ◌==◌, [], suc, ◌-◌, ◌<◌, ◌≤◌, length, drop, get_or, eqb, leb, ltb};
+ghost use Rattle.std.specs.Prelude.{filter, filter_map, find, map, Some};
 ghost use Rattle.std.specs.List.Sorted.{IsNonDecreasingBy};
 ghost use Rattle.chart.specs.declared.Zone.{Zone};
 ghost use Rattle.rows.specs.Rows.{rows_in};
 ghost use Rattle.rules.specs.Lists.{any};
+ghost use Rattle.laws.specs.Lists.{All};
 ghost use Rattle.rules.specs.Records.{Levels};
 ghost use Rattle.rules.specs.Marks.{superior_of, leaving, reaches_zone};
 ghost use Rattle.tables.specs.declared.Superior.{Superior};
 ghost use Rattle.tables.specs.Tables.{bigs_of};
-ghost use Rattle.mark_scan.specs.Scan.{TablesOf, reached_at, begin_of, stops_at, pairs_from, pairs_by, Later, LeavesFrom, Started, ZoneScan, Scanned, Owned};
+ghost use Rattle.mark_scan.specs.Scan.{TablesOf, reached_at, begin_of, stops_at, pairs_from, pairs_by, Later, LeavesFrom, Started};
+ghost use Rattle.mark_scan.specs.Scan.{ZoneScan, Scanned, SmallScan, Owned};
 
 use chart::{Range, Zone};
 use rows::Rows;
@@ -220,7 +223,8 @@ fn limit_of(
 
 // A limit, as a scan holds it.
 fn wide(limit: Option<u16>) -> Option<u32>
-    ensures { result ≡ limit }
+    ensures same { result ≡ limit }
+    ensures small { (bar : ℕ) → result ≡ Some bar → bar < 0x1_0000 }
 {
     limit.map(u32::from)
 }
@@ -238,8 +242,9 @@ fn scan_of(
     requires here { (i < length zones.now) × Owned zones.now (length superiors.now) }
     requires rise { rise ≡ true → IsNonDecreasingBy (λ (y : Zone). y.start_bar) zones.now }
     requires begins { rise ≡ false → begins.now ≡ map begin_of zones.now }
-    ensures { (c : Levels) (d : Zone) → TablesOf c bigs.now superiors.now zones.now → Started c before
+    ensures scanned { (c : Levels) (d : Zone) → TablesOf c bigs.now superiors.now zones.now → Started c before
         → ZoneScan c (get_or zones.now i d) result }
+    ensures small { SmallScan result }
 {
     let z = &zones[i];
     let h = superiors[z.sup_idx as usize];
@@ -264,7 +269,8 @@ fn scan_of(
 pub fn scans_of(bigs: &[Big], superiors: &[Superior], zones: &[Zone], scans: &mut Rows<Scan, 256>)
     requires room { length zones.now ≤ 256 }
     requires owned { Owned zones.now (length superiors.now) }
-    ensures { (c : Levels) → TablesOf c bigs.now superiors.now zones.now → Scanned c (rows_in scans.new) }
+    ensures scanned { (c : Levels) → TablesOf c bigs.now superiors.now zones.now → Scanned c (rows_in scans.new) }
+    ensures small { All SmallScan (rows_in scans.new) }
 {
     scans.count = 0;
     let rise = starts_rise(zones);
@@ -311,4 +317,76 @@ pub fn next_pair(bigs: &[Big], scan: &Scan, from: usize) -> Option<Pair>
         }
     }
     None
+}
+
+#[cfg(test)]
+mod tests {
+    use super::*;
+    use chart::{NO_ZONE, Span};
+
+    // A big of these bars.
+    fn big(direction: u8, start_bar: u16, end_bar: u16) -> Big {
+        let span = Span {
+            low: 10.0,
+            high: 20.0,
+            start_bar,
+            end_bar,
+            low_bar: start_bar,
+            high_bar: end_bar,
+        };
+        Big {
+            direction,
+            range: Range::Found(span),
+            end: None,
+        }
+    }
+
+    // Bigs turn at bars 0, 5, 9, 14, 18 and 25. Superior 1 is of bigs 1 to 3, upward; superior 2 turns down and ends at bar 25. The zone is big 2,
+    // which ends at bar 14: its scan starts at big 3, which starts there, and bar 25 stops it. With no zones the scans of before are gone.
+    #[test]
+    fn one_scan(rt: HostRuntime) {
+        let bigs = [
+            big(0, 0, 5),
+            big(1, 5, 9),
+            big(0, 9, 14),
+            big(1, 14, 18),
+            big(0, 18, 25),
+        ];
+        let superiors = [
+            Superior {
+                direction: 0,
+                first: 0,
+                last: 0,
+                end_bar: Some(5),
+            },
+            Superior {
+                direction: 1,
+                first: 1,
+                last: 3,
+                end_bar: Some(18),
+            },
+            Superior {
+                direction: 0,
+                first: 4,
+                last: 4,
+                end_bar: Some(25),
+            },
+        ];
+        let zones = [Zone {
+            sup_idx: 1,
+            start_bar: 9,
+            end_bar: 14,
+            ..NO_ZONE
+        }];
+        let mut scans = Rows::new(NO_SCAN);
+        scans_of(&bigs, &superiors, &zones, &mut scans);
+        assert_eq!(rt; scans.count, 1);
+        let scan = scans.rows[0];
+        assert_eq!(rt; scan.superior, 1);
+        assert_eq!(rt; scan.direction, 1);
+        assert_eq!(rt; scan.from, 3);
+        assert_eq!(rt; scan.limit, Some(25));
+        scans_of(&bigs, &superiors, &[], &mut scans);
+        assert_eq!(rt; scans.count, 0);
+    }
 }

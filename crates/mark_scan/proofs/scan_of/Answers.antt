@@ -1,5 +1,6 @@
 -- `mark_scan::scan_of` meets its contract. Assumes nothing.
 use Prim.Native.Nat.{ℕ}
+use native.Mathlib.Omega.{arith}
 use mathlib.Core.Path.{◌≡◌, refl, ◌∙◌}
 use lib.ListN.{get_or}
 use Rattle.std.proofs.lemmas.List.{get_or_default}
@@ -19,8 +20,8 @@ no_zone =
 pub bounds-superiors-z : goal.bounds-superiors-z
 bounds-superiors-z c = c.requires.here.1 c.args.i _ c.requires.here.0
 
-pub returns : goal.returns
-returns c l d t started =
+pub returns-clause-scanned : goal.returns-clause-scanned
+returns-clause-scanned c l d t started =
     let inside = c.requires.here.0 in
     let zones = c.args.zones.now in
     let same =
@@ -30,7 +31,11 @@ returns c l d t started =
       | else-rise w ↦ rw w.next-is refl
     ]
     in
-    rw (get_or_default zones c.args.i d no_zone inside, c.from.ensures, c.from-2.ensures, c.wide.ensures)
+    rw (get_or_default zones c.args.i d no_zone inside, c.from.ensures, c.from-2.ensures, c.wide.ensures.same)
     (zone-scan l _ _ _ t _ (owned _ _ _ _ t c.args.i _ inside) _ _ _ _ _
     (c.search_from-begin.ensures l started (first-is l _ _ _ t _ (owned _ _ _ _ t c.args.i _ inside) _))
     (c.start_of.ensures l t.bigs) c.reversal-turn.ensures (λ bar. c.limit_of-limit.ensures bar ∙ rw (same bar) refl))
+
+pub returns-clause-small : goal.returns-clause-small
+returns-clause-small c =
+    record { superior = omega (arith, c.from.ensures); direction = omega (arith, c.from-2.ensures); limit = c.wide.ensures.small }

@@ -31,5 +31,6 @@ returns c =
     let t = c.in_ok-fill_tables.ensures.tables in
     let tables : TablesOf (levels_of c.args.chart.now) c.listed-bigs.result.now c.listed-superiors.result.now c.listed-zones.result.now =
     record { bigs = c.listed-bigs.ensures ∙ t.bigs; superiors = c.listed-superiors.ensures ∙ t.superiors; zones = c.listed-zones.ensures ∙ t.zones } in
-    let marks = c.thirds_of.ensures (levels_of c.args.chart.now) tables (rw c.listed.ensures (c.scans_of.ensures (levels_of c.args.chart.now) tables)) in
+    let scanned = c.scans_of.ensures.scanned (levels_of c.args.chart.now) tables in
+    let marks = c.thirds_of.ensures (levels_of c.args.chart.now) tables (rw c.listed.ensures scanned) in
     ap given marks ∙ by.1 refl

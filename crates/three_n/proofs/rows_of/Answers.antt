@@ -10,7 +10,7 @@ scans_of-requires-clause-owned c = owned c.requires.of_levels.0 _ _ _ c.requires
 pub superior_rows-requires-clause-room : goal.superior_rows-requires-clause-room
 superior_rows-requires-clause-room c =
     let (l, t) = c.requires.of_levels in
-    let scanned = c.scans_of.ensures l t in
+    let scanned = c.scans_of.ensures.scanned l t in
     let thirds = c.thirds_of.ensures l t (rw c.listed.ensures scanned) in (
       l,
       record { bigs = t.bigs; superiors = t.superiors; scanned = rw c.listed-3.ensures scanned },
@@ -20,7 +20,7 @@ superior_rows-requires-clause-room c =
 pub anchor_rows-requires-clause-apart : goal.anchor_rows-requires-clause-apart
 anchor_rows-requires-clause-apart c =
     let (l, t) = c.requires.of_levels in
-    let scanned = c.scans_of.ensures l t in
+    let scanned = c.scans_of.ensures.scanned l t in
     let thirds = c.thirds_of.ensures l t (rw c.listed.ensures scanned) in
     let scans : ScansOf l c.args.bigs.now c.args.superiors.now c.listed-3.result.now =
     record { bigs = t.bigs; superiors = t.superiors; scanned = rw c.listed-3.ensures scanned } in
@@ -29,7 +29,7 @@ anchor_rows-requires-clause-apart c =
 pub anchor_rows-requires-clause-room : goal.anchor_rows-requires-clause-room
 anchor_rows-requires-clause-room c =
     let (l, t) = c.requires.of_levels in
-    let scanned = c.scans_of.ensures l t in
+    let scanned = c.scans_of.ensures.scanned l t in
     let thirds = c.thirds_of.ensures l t (rw c.listed.ensures scanned) in
     let scans : ScansOf l c.args.bigs.now c.args.superiors.now c.listed-3.result.now =
     record { bigs = t.bigs; superiors = t.superiors; scanned = rw c.listed-3.ensures scanned } in
@@ -38,7 +38,7 @@ anchor_rows-requires-clause-room c =
 
 pub returns : goal.returns
 returns c l t =
-    let scanned = c.scans_of.ensures l t in
+    let scanned = c.scans_of.ensures.scanned l t in
     let thirds = c.thirds_of.ensures l t (rw c.listed.ensures scanned) in
     let scans : ScansOf l c.args.bigs.now c.args.superiors.now c.listed-3.result.now =
     record { bigs = t.bigs; superiors = t.superiors; scanned = rw c.listed-3.ensures scanned } in
