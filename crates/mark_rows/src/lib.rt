@@ -72,8 +72,20 @@ pub fn push_near<const N: usize>(marks: &mut Rows<NMark, N>, mark: NMark, near: 
     put_at(marks, mark, place)
 }
 
-// Puts a bar into rising bars, in which each stands once; the place behind it.
-pub fn insert_bar<const N: usize>(bars: &mut Rows<u32, N>, bar: u32) -> usize
+// Puts a bar into rising bars, in which each stands once.
+pub fn insert_bar<const N: usize>(bars: &mut Rows<u16, N>, bar: u16)
+    requires rising { Rising (rows_in bars.old) }
+    requires room { bars.old.count < N }
+    ensures { rows_in bars.new ≡ insert_bar (rows_in bars.old) bar }
+{
+    match bars.listed().binary_search(&bar) {
+        Ok(_) => {}
+        Err(at) => bars.insert(at, bar),
+    }
+}
+
+// As insert_bar, with bars of u32; the place behind the bar.
+pub fn insert_wide_bar<const N: usize>(bars: &mut Rows<u32, N>, bar: u32) -> usize
     requires rising { Rising (rows_in bars.old) }
     requires room { bars.old.count < N }
     ensures bars { rows_in bars.new ≡ insert_bar (rows_in bars.old) bar }
@@ -105,6 +117,14 @@ fn first_zero(bars: &[u32], thirds: &[ThirdMark], buy: bool) -> Option<usize>
     bars.iter().position(|bar| zero_at(thirds, buy, *bar))
 }
 
+// As first_zero, with bars of u16.
+fn first_narrow_zero(bars: &[u16], thirds: &[ThirdMark], buy: bool) -> Option<usize>
+    ensures { result ≡ position (has_zero thirds.now buy) bars.now }
+{
+    bars.iter()
+        .position(|bar| zero_at(thirds, buy, u32::from(*bar)))
+}
+
 // The price of a mark: the lent low for buys, the lent high for sells.
 fn price_at(quotes: &Quotes, buy: bool, bar: u32) -> f64
     ensures { result ≡ price_at (quotes_of quotes.now) buy bar }
@@ -115,6 +135,40 @@ fn price_at(quotes: &Quotes, buy: bool, bar: u32) -> f64
 // Puts the numbered marks of a superior among the rows, by its scanned bars, which rise: those behind the first that has an order-0 mark of
 // the side get 1, 2, .., other order-0 marks taking no number.
 pub fn number_bars(
+    bars: &[u16],
+    buy: bool,
+    thirds: &[ThirdMark],
+    quotes: &Quotes,
+    marks: &mut Rows<NMark, 512>,
+)
+    requires few { length bars.now ≤ 0x1_0000 }
+    requires room { length (foldl push_3n (rows_in marks.old) (bar_marks (quotes_of quotes.now) thirds.now buy bars.now)) ≤ 512 }
+    ensures { rows_in marks.new
+        ≡ foldl push_3n (rows_in marks.old) (bar_marks (quotes_of quotes.now) thirds.now buy bars.now) }
+{
+    let Some(first) = first_narrow_zero(bars, thirds, buy) else {
+        return;
+    };
+    let rest = &bars[first + 1..];
+    let mut order = 1u32;
+    for bar in rest {
+        if zero_at(thirds, buy, u32::from(*bar)) {
+            continue;
+        }
+        let price = price_at(quotes, buy, u32::from(*bar));
+        let mark = NMark {
+            bar_index: *bar,
+            is_buy: buy,
+            order,
+            price,
+        };
+        push_3n(marks, mark);
+        order += 1;
+    }
+}
+
+// As number_bars, with bars of u32 that a u16 holds.
+pub fn number_wide_bars(
     bars: &[u32],
     buy: bool,
     thirds: &[ThirdMark],
@@ -145,5 +199,56 @@ pub fn number_bars(
         };
         push_3n(marks, mark);
         order += 1;
+    }
+}
+
+#[cfg(test)]
+mod tests {
+    use super::*;
+    use chart::Ground;
+
+    // A bar between two, one that is there already and one behind the last.
+    #[test]
+    fn bars_are_put(rt: HostRuntime) {
+        let mut bars = Rows::<u16, 8>::new(0);
+        for bar in [3, 9, 5, 9, 12] {
+            assert!(rt; bars.count < 8);
+            insert_bar(&mut bars, bar);
+        }
+        assert_eq!(rt; bars.listed(), [3, 5, 9, 12].as_slice());
+    }
+
+    // The bars behind the one with an order-0 mark get 1 and 2, with the lows there.
+    #[test]
+    fn bars_are_numbered(rt: HostRuntime) {
+        let thirds = [ThirdMark {
+            bar_index: 1,
+            is_buy: true,
+            price: 5.0,
+            ground: Ground::Zone(4.5),
+        }];
+        let quotes = Quotes {
+            highs: &[14.0, 15.0, 16.0, 17.0],
+            lows: &[4.0, 5.0, 6.0, 7.0],
+        };
+        let blank = NMark {
+            bar_index: 0,
+            is_buy: false,
+            order: 0,
+            price: 0.0,
+        };
+        let mut marks = Rows::new(blank);
+        number_bars(&[1, 2, 3], true, &thirds, &quotes, &mut marks);
+        let rows = marks.listed();
+        assert_eq!(rt; rows.len(), 2);
+        assert!(rt; rows[0].is_buy && rows[1].is_buy);
+        assert_eq!(rt;
+            (rows[0].bar_index, rows[0].order, rows[0].price),
+            (2, 1, 6.0)
+        );
+        assert_eq!(rt;
+            (rows[1].bar_index, rows[1].order, rows[1].price),
+            (3, 2, 7.0)
+        );
     }
 }

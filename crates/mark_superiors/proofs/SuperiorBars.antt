@@ -16,8 +16,8 @@ use Rattle.laws.proofs.Lists.{all-at, all_right}
 use Rattle.mark_scan.specs.declared.Scan.{Scan}
 use Rattle.mark_scan.specs.Scan.{pairs_from, ZoneScan, Scanned}
 use Rattle.mark_scan.proofs.Scans.{scanned-is, scan-at, scans-length}
-use Rattle.mark_superiors.specs.Superiors.{RisingAmong, Block}
-use Rattle.mark_superiors.proofs.ZoneBars.{among_none}
+use Rattle.mark_superiors.specs.Superiors.{RisingAmong, SmallAmong, Block}
+use Rattle.mark_superiors.proofs.ZoneBars.{among_none, among_more, small_none, pairs_end}
 
 -- the element at place i, and those behind it
 front : (i : ℕ) (l : List Zone) (x : Zone) (xs : List Zone) → i < length l → drop i l ≡ x ∷ xs → (get_or l i x ≡ x) × (drop (i + 1) l ≡ xs)
@@ -36,16 +36,28 @@ module _ (c : Levels) (h : ℕ) (scans : List Scan) where
     pub block : Block c h i rest later
     pub put : foldl insert_bar bars (zone_bars rest) ≡ foldl insert_bar [] (zone_bars own)
 
-  -- of superior h's zones, which stand from place `from` on, those before place i have their bars put in
-  pub record ZonesSoFar (from : ℕ) (bars : List ℕ) (i : ℕ) : Type 0 where
-    pub among : RisingAmong (end_bars c) bars
+  -- of superior h's zones, which stand from place `from` on, those before place i have their bars put in; Among holds of the bars
+  pub record ZonesPut (Among : List ℕ → Type 0) (from : ℕ) (bars : List ℕ) (i : ℕ) : Type 0 where
+    pub among : Among bars
     pub left : (own later : List Zone) → Block c h from own later → OwnLeft own later bars i
 
-  pub zones-first : (from : ℕ) (bars : List ℕ) → bars ≡ [] → ZonesSoFar from bars from
-  zones-first from bars e =
-      record { among = rw e (among_none (end_bars c)); left = λ own later b. record { rest = own; block = b; put = rw e } }
+  abbrev pub ZonesSoFar : (from : ℕ) (bars : List ℕ) (i : ℕ) → Type 0
+  ZonesSoFar = ZonesPut (RisingAmong (end_bars c))
 
-  module _ (all : Scanned c scans) (from : ℕ) (bars : List ℕ) (i : ℕ) (so_far : ZonesSoFar from bars i) where
+  abbrev pub SmallZonesSoFar : (from : ℕ) (bars : List ℕ) (i : ℕ) → Type 0
+  SmallZonesSoFar = ZonesPut (SmallAmong (end_bars c))
+
+  put-first : (Among : List ℕ → Type 0) → Among [] → (from : ℕ) (bars : List ℕ) → bars ≡ [] → ZonesPut Among from bars from
+  put-first Among none from bars e =
+      record { among = rw e none; left = λ own later b. record { rest = own; block = b; put = rw e } }
+
+  pub zones-first : (from : ℕ) (bars : List ℕ) → bars ≡ [] → ZonesSoFar from bars from
+  zones-first = put-first (RisingAmong (end_bars c)) (among_none (end_bars c))
+
+  pub small-zones-first : (from : ℕ) (bars : List ℕ) → bars ≡ [] → SmallZonesSoFar from bars from
+  small-zones-first = put-first (SmallAmong (end_bars c)) (small_none (end_bars c))
+
+  module _ {Among : List ℕ → Type 0} (all : Scanned c scans) (from : ℕ) (bars : List ℕ) (i : ℕ) (so_far : ZonesPut Among from bars i) where
     many : length scans ≡ length (overlap_zones c)
     many = scans-length c all
 
@@ -86,11 +98,11 @@ module _ (c : Levels) (h : ℕ) (scans : List Scan) where
           → (bars ≡ foldl insert_bar [] (zone_bars own)) × (drop i (overlap_zones c) ≡ later)
       zones-other other = done i (λ z rest later b. other ((its z (rest ++ later) b.stand).0.own ∙ all-at 0 z b.owned refl)) refl
 
-      -- a zone of this one, whose bars are put in
-      pub zones-next :
-          s.superior ≡ h → (bars' : List ℕ) → (RisingAmong (end_bars c) bars → RisingAmong (end_bars c) bars')
-          → bars' ≡ foldl insert_bar bars (pairs_from c s s.from) → ZonesSoFar from bars' (i + 1)
-      zones-next mine bars' keeps put =
+      -- a zone of this one, whose bars are put in, so that Among still holds
+      put-next :
+          s.superior ≡ h → (bars' : List ℕ) → (Among bars → Among bars') → bars' ≡ foldl insert_bar bars (pairs_from c s s.from)
+          → ZonesPut Among from bars' (i + 1)
+      put-next mine bars' keeps put =
           record {
             among = keeps so_far.among;
             left = λ own later b. let l = so_far.left own later b in go own later l.rest l.block l.put;
@@ -108,3 +120,20 @@ module _ (c : Levels) (h : ℕ) (scans : List Scan) where
                 block = record { stand = behind; owned = all_right (z ∷ []) rest b.owned; above = b.above };
                 put = rw (put, ← scanned-is c z s scan, ← foldl-append insert_bar) e;
               }
+
+  -- a zone of this one, whose bars are put in: they stay among the ends
+  pub zones-next :
+      (all : Scanned c scans) (from : ℕ) (bars : List ℕ) (i : ℕ) (so_far : ZonesSoFar from bars i) (d : Scan) (more : i < length scans)
+      → let s = get_or scans i d in
+      s.superior ≡ h → (bars' : List ℕ) → bars' ≡ foldl insert_bar bars (pairs_from c s s.from) → ZonesSoFar from bars' (i + 1)
+  zones-next all from bars i so_far d more mine bars' put =
+      let s = get_or scans i d in
+      put-next all from bars i so_far d more mine bars' (λ a. rw put (among_more (end_bars c) bars (pairs_from c s s.from) a (pairs_end c s s.from))) put
+
+  -- the same of bars that a u16 holds, where the new ones are such too
+  pub small-zones-next :
+      (all : Scanned c scans) (from : ℕ) (bars : List ℕ) (i : ℕ) (so_far : SmallZonesSoFar from bars i) (d : Scan) (more : i < length scans)
+      → let s = get_or scans i d in
+      s.superior ≡ h → (bars' : List ℕ) → (SmallAmong (end_bars c) bars → SmallAmong (end_bars c) bars')
+      → bars' ≡ foldl insert_bar bars (pairs_from c s s.from) → SmallZonesSoFar from bars' (i + 1)
+  small-zones-next = put-next

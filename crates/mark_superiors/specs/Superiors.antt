@@ -17,8 +17,13 @@ pub record ScansOf (c : Levels) (bs : List Big) (ss : List Superior) (scans : Li
   pub superiors : ss ≡ superiors_of c
   pub scanned : Scanned c scans
 
--- rising bars among these ends, that a u16 holds
+-- rising bars among these ends
 pub record RisingAmong (ends bars : List ℕ) : Type 0 where
+  pub rising : Rising bars
+  pub there : All (λ (b : ℕ). Memᴰ b ends) bars
+
+-- rising bars among these ends, that a u16 holds
+pub record SmallAmong (ends bars : List ℕ) : Type 0 where
   pub rising : Rising bars
   pub small : All (λ (b : ℕ). b < 0x1_0000) bars
   pub there : All (λ (b : ℕ). Memᴰ b ends) bars

@@ -15,7 +15,7 @@ ghost use Rattle.laws.specs.Lists.{All, Rising, end_bars};
 ghost use Rattle.tables.specs.Tables.{bigs_of};
 ghost use Rattle.mark_scan.specs.Scan.{pairs_from, Scanned};
 ghost use Rattle.mark_hits.specs.Quotes.{quotes_of};
-ghost use Rattle.mark_superiors.specs.Superiors.{RisingAmong, Block, ScansOf};
+ghost use Rattle.mark_superiors.specs.Superiors.{SmallAmong, Block, ScansOf};
 
 use chart::{NMark, ThirdMark};
 use mark_hits::Quotes;
@@ -34,15 +34,15 @@ fn insert_near(bars: &mut Rows<u32, 257>, near: usize, bar: u32) -> usize
     if near < bars.count && bars.rows[near] == bar {
         return near + 1;
     }
-    mark_rows::insert_bar(bars, bar)
+    mark_rows::insert_wide_bar(bars, bar)
 }
 
 // The bars of a scan's pairs, put into rising bars.
 fn zone_bars(bigs: &[Big], scan: &Scan, bars: &mut Rows<u32, 257>)
     requires few { length bigs.now ≤ 256 }
-    requires among { (c : Levels) × (bigs.now ≡ bigs_of c) × RisingAmong (end_bars c) (rows_in bars.old) }
+    requires among { (c : Levels) × (bigs.now ≡ bigs_of c) × SmallAmong (end_bars c) (rows_in bars.old) }
     ensures among { (c : Levels) → bigs.now ≡ bigs_of c
-        → RisingAmong (end_bars c) (rows_in bars.old) → RisingAmong (end_bars c) (rows_in bars.new) }
+        → SmallAmong (end_bars c) (rows_in bars.old) → SmallAmong (end_bars c) (rows_in bars.new) }
     ensures bars { (c : Levels) → bigs.now ≡ bigs_of c
         → rows_in bars.new ≡ foldl insert_bar (rows_in bars.old) (pairs_from c scan.now scan.now.from) }
 {
@@ -100,6 +100,6 @@ pub fn superior_rows(
     for (h, s) in superiors.iter().enumerate() {
         at = superior_bars(bigs, scans, h, at, &mut bars);
         let buy = s.direction == 1;
-        mark_rows::number_bars(bars.listed(), buy, thirds, quotes, marks);
+        mark_rows::number_wide_bars(bars.listed(), buy, thirds, quotes, marks);
     }
 }

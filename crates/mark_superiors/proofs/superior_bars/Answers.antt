@@ -1,10 +1,10 @@
 -- `mark_superiors::superior_bars` meets its contract. The invariant: the zones before place i have their bars put in. Assumes nothing.
 use mathlib.Core.Path.{refl}
-use Rattle.mark_superiors.proofs.SuperiorBars.{zones-first, zones-over, zones-other, zones-next}
+use Rattle.mark_superiors.proofs.SuperiorBars.{zones-over, zones-other, small-zones-first, small-zones-next}
 use Rattle.mark_superiors.proofs.superior_bars.Goals as goal
 
 pub loop-i-init : goal.loop-i-init
-loop-i-init c l t all = zones-first l c.args.h c.args.scans.now c.args.from _ refl
+loop-i-init c l t all = small-zones-first l c.args.h c.args.scans.now c.args.from _ refl
 
 pub returns-then-scans-i-clause-small : goal.returns-then-scans-i-clause-small
 returns-then-scans-i-clause-small c = let (l, t, all) = c.requires.of_levels in (c.loop-i.invariant l t all).among.small
@@ -18,7 +18,7 @@ zone_bars-requires-clause-among c = let (l, t, all) = c.requires.of_levels in (l
 
 pub loop-i-preserved : goal.loop-i-preserved
 loop-i-preserved c l t all =
-    zones-next l c.args.h c.args.scans.now all c.args.from _ c.loop-i.i (c.loop-i.invariant l t all) _ c.loop-i-test.true c.if-scans-i.false
+    small-zones-next l c.args.h c.args.scans.now all c.args.from _ c.loop-i.i (c.loop-i.invariant l t all) _ c.loop-i-test.true c.if-scans-i.false
     _ (c.zone_bars.ensures.among l t) (c.zone_bars.ensures.bars l t)
 
 pub returns-clause-small : goal.returns-clause-small

@@ -11,8 +11,8 @@ loop-h-init c l t = (rest_zones_first l, refl)
 pub superior_bars-at-requires : goal.superior_bars-at-requires
 superior_bars-at-requires c = let (l, t, h) = c.requires.room in record { few = c.requires.few; of_levels = (l, t.bigs, t.scanned) }
 
-pub number_bars-requires-clause-room : goal.number_bars-requires-clause-room
-number_bars-requires-clause-room c =
+pub number_wide_bars-requires-clause-room : goal.number_wide_bars-requires-clause-room
+number_wide_bars-requires-clause-room c =
     let (l, t, h) = c.requires.room in
     let (zones, rows) = c.loop-h.invariant l t in
     let inside = superior_inside l _ t.superiors c.loop-h.h c.loop-h-test.true in
@@ -27,7 +27,7 @@ loop-h-preserved c l t =
     let taken = c.superior_bars-at.ensures.bars l _ _ t.bigs t.scanned (block l c.loop-h.h c.loop-h.at zones inside) in (
       rest-zones-next l c.loop-h.h c.loop-h.at zones inside _ taken.1,
       rows-next l _ _ _ _ c.loop-h.h rows _ t.superiors _ c.loop-h-test.true _ refl _
-          (c.listed.ensures ∙ taken.0 ∙ bars-own l c.loop-h.h c.loop-h.at zones inside) _ c.number_bars.ensures,
+          (c.listed.ensures ∙ taken.0 ∙ bars-own l c.loop-h.h c.loop-h.at zones inside) _ c.number_wide_bars.ensures,
     )
 
 pub returns : goal.returns
