@@ -341,6 +341,17 @@ mod tests {
         }
     }
 
+    // A scan's numbers in no more bits than they need: superior, direction, limit.
+    fn narrow(scan: Scan) -> (u16, u8, Option<u16>)
+        requires { SmallScan scan }
+    {
+        let limit = match scan.limit {
+            Some(bar) => Some(bar as u16),
+            None => None,
+        };
+        (scan.superior as u16, scan.direction as u8, limit)
+    }
+
     // Bigs turn at bars 0, 5, 9, 14, 18 and 25. Superior 1 is of bigs 1 to 3, upward; superior 2 turns down and ends at bar 25. The zone is big 2,
     // which ends at bar 14: its scan starts at big 3, which starts there, and bar 25 stops it. With no zones the scans of before are gone.
     #[test]
@@ -382,10 +393,8 @@ mod tests {
         scans_of(&bigs, &superiors, &zones, &mut scans);
         assert_eq!(rt; scans.count, 1);
         let scan = scans.rows[0];
-        assert_eq!(rt; scan.superior, 1);
-        assert_eq!(rt; scan.direction, 1);
         assert_eq!(rt; scan.from, 3);
-        assert_eq!(rt; scan.limit, Some(25));
+        assert_eq!(rt; narrow(scan), (1, 1, Some(25)));
         scans_of(&bigs, &superiors, &[], &mut scans);
         assert_eq!(rt; scans.count, 0);
     }
