@@ -2,7 +2,7 @@
 
 #![tactic(auto)]
 
-ghost use Rattle.std.specs.Prelude.{◌≡◌, ℕ, ◌-◌, ◌<◌, ◌≤◌, length, get_or, position};
+ghost use Rattle.std.specs.Prelude.{◌≡◌, ℕ, ◌-◌, ◌<◌, ◌≤◌, ◌∷◌, [], true, length, get_or, position};
 ghost use mathlib.Core.List.{foldl, map};
 ghost use Rattle.rows.specs.Rows.{rows_in};
 ghost use Rattle.mark_hits.specs.Quotes.{quotes_of};
@@ -10,6 +10,7 @@ ghost use Rattle.rules.specs.Marks.{price_at, insert_bar, push_3n};
 ghost use Rattle.laws.specs.Lists.{All, Distinct, Rising};
 ghost use Rattle.laws.specs.Keys.{mark_key};
 ghost use Rattle.mark_rows.specs.Numbered.{stands_at, has_zero, bar_marks};
+ghost use Rattle.chart.specs.declared.NMark.{NMark};
 
 use chart::{NMark, ThirdMark};
 use mark_hits::Quotes;
@@ -207,29 +208,39 @@ mod tests {
     use super::*;
     use chart::Ground;
 
-    // A bar between two, one that is there already and one behind the last.
-    #[test]
-    fn bars_are_put(rt: HostRuntime) {
-        let mut bars = Rows::<u16, 8>::new(0);
-        for bar in [3, 9, 5, 9, 12] {
-            assert!(rt; bars.count < 8);
-            insert_bar(&mut bars, bar);
-        }
-        assert_eq!(rt; bars.listed(), [3, 5, 9, 12].as_slice());
+    // In front, between two, behind the last, and one that is there already: by the contract alone.
+    fn placed() -> Rows<u16, 8>
+        ensures { rows_in result ≡ 3 ∷ 5 ∷ 9 ∷ [] }
+    {
+        let mut bars = Rows::new(0);
+        insert_bar(&mut bars, 5);
+        insert_bar(&mut bars, 3);
+        insert_bar(&mut bars, 9);
+        insert_bar(&mut bars, 5);
+        bars
     }
 
-    // The bars behind the one with an order-0 mark get 1 and 2, with the lows there.
     #[test]
-    fn bars_are_numbered(rt: HostRuntime) {
-        let thirds = [ThirdMark {
+    fn bars_are_put(rt: HostRuntime) {
+        assert_eq!(rt; placed().listed(), [3, 5, 9].as_slice());
+    }
+
+    // By the contract alone: behind the first bar with an order-0 mark of the side, bars 2 and 4 get 1 and 2; bar 3 has such a mark of its own.
+    fn numbered(quotes: &Quotes) -> Rows<NMark, 512>
+        ensures bars { map (λ (m : NMark). m.bar_index) (rows_in result) ≡ 2 ∷ 4 ∷ [] }
+        ensures orders { map (λ (m : NMark). m.order) (rows_in result) ≡ 1 ∷ 2 ∷ [] }
+        ensures prices { map (λ (m : NMark). m.price) (rows_in result)
+            ≡ price_at (quotes_of quotes.now) true 2 ∷ price_at (quotes_of quotes.now) true 4 ∷ [] }
+    {
+        let third = ThirdMark {
             bar_index: 1,
             is_buy: true,
             price: 5.0,
             ground: Ground::Zone(4.5),
-        }];
-        let quotes = Quotes {
-            highs: &[14.0, 15.0, 16.0, 17.0],
-            lows: &[4.0, 5.0, 6.0, 7.0],
+        };
+        let later = ThirdMark {
+            bar_index: 3,
+            ..third
         };
         let blank = NMark {
             bar_index: 0,
@@ -238,17 +249,21 @@ mod tests {
             price: 0.0,
         };
         let mut marks = Rows::new(blank);
-        number_bars(&[1, 2, 3], true, &thirds, &quotes, &mut marks);
+        number_bars(&[0, 1, 2, 3, 4], true, &[third, later], quotes, &mut marks);
+        marks
+    }
+
+    // Buys get the lows there.
+    #[test]
+    fn bars_are_numbered(rt: HostRuntime) {
+        let quotes = Quotes {
+            highs: &[13.0, 14.0, 15.0, 16.0, 17.0],
+            lows: &[3.0, 4.0, 5.0, 6.0, 7.0],
+        };
+        let marks = numbered(&quotes);
         let rows = marks.listed();
         assert_eq!(rt; rows.len(), 2);
-        assert!(rt; rows[0].is_buy && rows[1].is_buy);
-        assert_eq!(rt;
-            (rows[0].bar_index, rows[0].order, rows[0].price),
-            (2, 1, 6.0)
-        );
-        assert_eq!(rt;
-            (rows[1].bar_index, rows[1].order, rows[1].price),
-            (3, 2, 7.0)
-        );
+        assert_eq!(rt; (rows[0].is_buy, rows[0].price), (true, 5.0));
+        assert_eq!(rt; (rows[1].is_buy, rows[1].price), (true, 7.0));
     }
 }
